@@ -1,0 +1,4 @@
+pub mod Decides
+pub mod Cut
+pub mod Buffer
+pub mod Worked

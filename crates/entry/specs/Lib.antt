@@ -1,0 +1,4 @@
+pub mod Users
+pub mod Piece
+pub mod Entry
+pub mod Verdict

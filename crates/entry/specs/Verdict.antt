@@ -1,0 +1,41 @@
+-- What the deciding entry answers: nargs, argument patterns, path length, password, in that order (01, "Options").
+use Prim.Native.Nat.{ℕ}
+use mathlib.Core.Bool.{Bool, true, false, not}
+use mathlib.Core.List.{List, [], _∷_, _++_}
+use mathlib.Core.Option.{Option, none, some}
+use lib.Dec.{ltb}
+use lib.ListN.{length}
+use Rattle.text.specs.Choice.{pick}
+use Rattle.question.specs.Question.{Question}
+use Rattle.question.specs.Password.{passwordNeeded}
+use Rattle.options.specs.Options.{Options, over, authOr, timeoutOr, nargsAllow}
+use Rattle.options.specs.Arguments.{ArgumentPattern, argumentsPass}
+use Rattle.options.specs.Read.{optionsOf, argumentsOf}
+use Rattle.entry.specs.Piece.{Entry}
+use Rattle.entry.specs.Entry.{pathFor, conditionsAccept}
+
+pub data Verdict : Type 0 where
+  permit : List ℕ → Options → Verdict
+  password : List ℕ → Options → Verdict
+  stoppedByNargs : Verdict
+  stoppedByArgument : Verdict
+  stoppedByPath : Verdict
+
+unfoldable pub verdictOn : Question → Options → List ArgumentPattern → List ℕ → Verdict
+verdictOn q o ps path =
+    pick (not (nargsAllow (o .nargs) (length (q .args)))) stoppedByNargs
+    (pick (not (argumentsPass ps (q .args))) stoppedByArgument
+    (pick (ltb 1024 (length path)) stoppedByPath
+    (pick (passwordNeeded (authOr (o .auth)) (timeoutOr (o .timeout)) (q .age)) (password path o)
+    (permit path o))))
+
+abbrev pub verdictIf : Question → Options → List ArgumentPattern → Entry → Option (List ℕ) → Option Verdict
+verdictIf q o ps e none = none
+verdictIf q o ps e (some path) =
+    pick (conditionsAccept q e)
+    (some (verdictOn q (over (optionsOf (e .settings)) o) (ps ++ argumentsOf (e .settings)) path))
+    none
+
+-- the entry's verdict where its command, users and times all accept; options and argument patterns in force go before
+unfoldable pub verdictOf : Question → Options → List ArgumentPattern → Entry → Option Verdict
+verdictOf q o ps e = verdictIf q o ps e (pathFor (q .command) (e .pairs))

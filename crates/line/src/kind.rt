@@ -1,0 +1,5 @@
+pub enum LineKind {
+    NoField,
+    Colon,
+    Entry,
+}

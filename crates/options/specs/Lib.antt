@@ -1,0 +1,3 @@
+pub mod Options
+pub mod Read
+pub mod Arguments

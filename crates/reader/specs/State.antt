@@ -1,0 +1,62 @@
+-- What is kept from line to line: variables, options and argument patterns in force, whether `patterns=shell` was read, and the decision once made.
+use Prim.Native.Nat.{ℕ}
+use mathlib.Core.Bool.{Bool, true, false}
+use mathlib.Core.List.{List, [], _∷_, _++_}
+use mathlib.Core.Option.{Option, none, some}
+use Rattle.text.specs.Choice.{either}
+use Rattle.text.specs.Lists.{firstOf}
+use Rattle.question.specs.Question.{Question}
+use Rattle.variables.specs.Scope.{Scope, Definition, define}
+use Rattle.options.specs.Options.{Options, noOptions, over}
+use Rattle.options.specs.Arguments.{ArgumentPattern}
+use Rattle.options.specs.Read.{Setting, optionsOf, argumentsOf, hasShell}
+use Rattle.entry.specs.Piece.{Entry}
+use Rattle.entry.specs.Verdict.{Verdict, verdictOf}
+
+-- the deciding line's number and end, and its entry's verdict
+pub record Decision : Type 0 where
+  pub line : ℕ
+  pub end : ℕ
+  pub verdict : Verdict
+
+pub record State : Type 0 where
+  pub definitions : List Definition
+  pub options : Options
+  pub arguments : List ArgumentPattern
+  pub shell : Bool
+  pub decision : Option Decision
+
+unfoldable pub start : State
+start = record { definitions = []; options = noOptions; arguments = []; shell = false; decision = none }
+
+-- CALLER and HOST come from the question
+abbrev pub scopeOf : Question → State → Scope
+scopeOf q s = record { caller = q .user; host = q .host; definitions = s .definitions }
+
+-- `:define`
+unfoldable pub withDefinition : Definition → State → State
+withDefinition d s = record { definitions = define d (s .definitions); options = s .options; arguments = s .arguments; shell = s .shell; decision = s .decision }
+
+-- `:global`: in force from the next line; later settings over earlier ones, argument patterns add up
+unfoldable pub withSettings : List Setting → State → State
+withSettings ss s = record {
+  definitions = s .definitions;
+  options = over (optionsOf ss) (s .options);
+  arguments = s .arguments ++ argumentsOf ss;
+  shell = either (s .shell) (hasShell ss);
+  decision = s .decision;
+}
+
+abbrev pub decisionOf : ℕ → ℕ → Option Verdict → Option Decision
+decisionOf line end none = none
+decisionOf line end (some v) = some (record { line = line; end = end; verdict = v })
+
+-- the first entry that accepts decides
+unfoldable pub withEntry : Question → ℕ → ℕ → Entry → State → State
+withEntry q line end e s = record {
+  definitions = s .definitions;
+  options = s .options;
+  arguments = s .arguments;
+  shell = s .shell;
+  decision = firstOf (s .decision) (decisionOf line end (verdictOf q (s .options) (s .arguments) e));
+}

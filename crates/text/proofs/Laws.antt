@@ -1,0 +1,201 @@
+-- General laws of lists, of choices and of computed tables.
+use mathlib.Core.Path.{_≡_, refl, sym, ap, _∙_}
+use mathlib.Core.Bool.{Bool, true, false, not}
+use mathlib.Core.List.{List, [], _∷_, _++_, map}
+use mathlib.Core.Logic.{_⊎_, inl, inr}
+use Prim.Native.Nat.{ℕ, zero, suc, _+_, _-_, _≤_, _<_}
+use native.Mathlib.Omega.{arith}
+use native.Mathlib.Nat.{le-of-suc-le-suc, not-suc-le-zero}
+use native.Mathlib.Numerals.{add-one}
+use lib.ListN.{length, getD, take, drop, length-take, length-drop, take-append-drop}
+use lib.Seq.{drop-cons, drop-drop, take-all, take-take, take-nil, getD-take, getD-drop}
+use Rattle.text.specs.Choice.{pick, both, either}
+
+-- the next element, by the code's `i + 1`
+pub next-of : {A : Type 0} (z : A) (s : List A) (i : ℕ) → i < length s → drop i s ≡ getD s i z ∷ drop (i + 1) s
+next-of z s i h = rw (add-one, drop-cons s i z)
+
+-- the same of bytes
+pub next : (s : List ℕ) (i : ℕ) → i < length s → drop i s ≡ getD s i 0 ∷ drop (i + 1) s
+next = next-of 0
+
+-- what holds of both choices holds of the chosen one
+pub pick-of : {X : Type 0} (P : X → Type 0) (t : Bool) {x y : X} → P x → P y → P (pick t x y)
+pick-of P true p q = p
+pick-of P false p q = q
+
+pub pick-both : {X : Type 0} (t : Bool) (x : X) → pick t x x ≡ x
+pick-both true x = refl
+pick-both false x = refl
+
+-- a choice that says something else than y was x
+pub pick-told : {X : Type 0} (t : Bool) (x y : X) → (pick t x y ≡ y → ⊥) → t ≡ true
+pick-told true x y h = refl
+pick-told false x y h = absurd (h refl)
+
+pub pick-ap : {X Y : Type 0} (f : X → Y) (t : Bool) (x y : X) → f (pick t x y) ≡ pick t (f x) (f y)
+pick-ap f true x y = refl
+pick-ap f false x y = refl
+
+pub both-true : (a b : Bool) → both a b ≡ true → (a ≡ true) × (b ≡ true)
+both-true true b e = (refl, e)
+both-true false b e = (e, cc)
+
+pub both-of : {a b : Bool} → a ≡ true → b ≡ true → both a b ≡ true
+both-of e f = rw (e, f)
+
+pub both-no : (t : Bool) → both t false ≡ false
+both-no true = refl
+both-no false = refl
+
+pub both-yes : (t : Bool) → both t true ≡ t
+both-yes true = refl
+both-yes false = refl
+
+pub both-assoc : (a b c : Bool) → both (both a b) c ≡ both a (both b c)
+both-assoc true b c = refl
+both-assoc false b c = refl
+
+pub both-swap : (a b : Bool) → both a b ≡ both b a
+both-swap true b = sym (both-yes b)
+both-swap false b = sym (both-no b)
+
+pub both-false : (a b : Bool) → both a b ≡ false → (a ≡ false) ⊎ (b ≡ false)
+both-false true b e = inr e
+both-false false b e = inl refl
+
+pub either-no : (t : Bool) → either t false ≡ t
+either-no true = refl
+either-no false = refl
+
+pub either-yes : (t : Bool) → either t true ≡ true
+either-yes true = refl
+either-yes false = refl
+
+pub either-of : (a b : Bool) → b ≡ true → either a b ≡ true
+either-of true b e = refl
+either-of false b e = e
+
+pub either-false : (a b : Bool) → either a b ≡ false → (a ≡ false) × (b ≡ false)
+either-false true b e = (cc, cc)
+either-false false b e = (refl, e)
+
+pub either-true : (a b : Bool) → either a b ≡ true → (a ≡ true) ⊎ (b ≡ true)
+either-true true b e = inl refl
+either-true false b e = inr e
+
+pub either-assoc : (a b c : Bool) → either (either a b) c ≡ either a (either b c)
+either-assoc true b c = refl
+either-assoc false b c = refl
+
+pub either-swap : (a b : Bool) → either a b ≡ either b a
+either-swap true b = sym (either-yes b)
+either-swap false b = sym (either-no b)
+
+pub not-both : (a b : Bool) → not (both a b) ≡ either (not a) (not b)
+not-both true b = refl
+not-both false b = refl
+
+pub not-either : (a b : Bool) → not (either a b) ≡ both (not a) (not b)
+not-either true b = refl
+not-either false b = refl
+
+pub true-of : (t : Bool) → (t ≡ false → ⊥) → t ≡ true
+true-of true h = refl
+true-of false h = absurd (h refl)
+
+-- two tests that pass at the same time are one
+pub same-test : (a b : Bool) → (a ≡ true → b ≡ true) → (b ≡ true → a ≡ true) → a ≡ b
+same-test true b f g = sym (f refl)
+same-test false true f g = g refl
+same-test false false f g = refl
+
+pub false-of : (t : Bool) → (t ≡ true → ⊥) → t ≡ false
+false-of true h = absurd (h refl)
+false-of false h = refl
+
+-- what holds of 0, 1, .. n - 1 one by one holds below n
+abbrev pub All : (ℕ → Type 0) → ℕ → Type 0
+All P zero = Unit {0}
+All P (suc n) = P 0 × All (λ k. P (suc k)) n
+
+pub below : (P : ℕ → Type 0) (n : ℕ) → All P n → (d : ℕ) → d < n → P d
+below P zero all d h = absurd (not-suc-le-zero h)
+below P (suc n) all zero h = all .0
+below P (suc n) all (suc d) h = below (λ k. P (suc k)) n (all .1) d (le-of-suc-le-suc h)
+
+-- n numbers from i on
+abbrev pub from : ℕ → ℕ → List ℕ
+from zero i = []
+from (suc n) i = i ∷ from n (i + 1)
+
+-- what a computed test of a whole table says of an entry
+pub agree {ℓ} : {B : Type ℓ} (f g : ℕ → B) (l : List ℕ) (n i k : ℕ) → map f l ≡ map g (from n i) → k < n → f (getD l k 0) ≡ g (i + k)
+agree f g l zero i k e h = absurd (omega arith)
+agree f g [] (suc n) i k e h = cc
+agree f g (x ∷ l) (suc n) i zero e h = let z : i + 0 ≡ i = omega arith in let y : f x ≡ g i = cc in rw z y
+agree f g (x ∷ l) (suc n) i (suc k) e h =
+    let z : i + 1 + k ≡ i + suc k = omega arith in let y : map f l ≡ map g (from n (i + 1)) = cc in
+    rw (← z) (agree f g l n (i + 1) k y (omega arith))
+
+-- an entry of a table that is computed
+pub table-at : (f : ℕ → ℕ) (n i k : ℕ) → k < n → getD (map f (from n i)) k 0 ≡ f (i + k)
+table-at f zero i k h = absurd (omega arith)
+table-at f (suc n) i zero h = let z : i + 0 ≡ i = omega arith in rw z
+table-at f (suc n) i (suc k) h = let z : i + 1 + k ≡ i + suc k = omega arith in rw (← z) (table-at f n (i + 1) k (omega arith))
+
+-- what a computed test of all numbers below n says of one
+pub every {ℓ} : {B : Type ℓ} (f g : ℕ → B) (n i k : ℕ) → map f (from n i) ≡ map g (from n i) → k < n → f (i + k) ≡ g (i + k)
+every f g zero i k e h = absurd (omega arith)
+every f g (suc n) i zero e h = let z : i + 0 ≡ i = omega arith in let y : f i ≡ g i = cc in rw z y
+every f g (suc n) i (suc k) e h =
+    let z : i + 1 + k ≡ i + suc k = omega arith in let y : map f (from n (i + 1)) ≡ map g (from n (i + 1)) = cc in
+    rw (← z) (every f g n (i + 1) k y (omega arith))
+
+pub every-byte {ℓ} : {B : Type ℓ} (f g : ℕ → B) → map f (from 256 0) ≡ map g (from 256 0) → (b : ℕ) → b < 256 → f b ≡ g b
+every-byte f g e b h = let z : 0 + b ≡ b = omega arith in rw z at (every f g 256 0 b e h)
+
+-- `&s[n..]` is the rest of s
+pub part-rest : {A : Type 0} (n : ℕ) (s : List A) → take (length s - n) (drop n s) ≡ drop n s
+part-rest n s = let h : length (drop n s) ≤ length s - n = omega (arith, length-drop n s) in take-all _ _ h
+
+-- `&s[..n]` is the beginning of s
+pub part-start : {A : Type 0} (n : ℕ) (s : List A) → take (n - 0) (drop 0 s) ≡ take n s
+part-start n s = let z : n - 0 ≡ n = omega arith in rw z
+
+-- `&s[..]` is s
+pub part-whole : {A : Type 0} (s : List A) → take (length s - 0) (drop 0 s) ≡ s
+part-whole s = let h : length s ≤ length s - 0 = omega arith in take-all _ _ h
+
+pub drop-take : {A : Type 0} (b n : ℕ) (s : List A) → drop b (take n s) ≡ take (n - b) (drop b s)
+drop-take zero n s = let z : n - 0 ≡ n = omega arith in rw z
+drop-take (suc b) zero s = let z : 0 - suc b ≡ 0 = omega arith in rw z
+drop-take (suc b) (suc n) [] = sym (take-nil (suc n - suc b))
+drop-take (suc b) (suc n) (x ∷ s) = let z : suc n - suc b ≡ n - b = omega arith in rw z (drop-take b n s)
+
+-- `&s[a..e]`: its length, its elements, its first element and the rest, and what stands before and behind it
+module _ {A : Type 0} (s : List A) (a e : ℕ) where
+  pub part-length : e ≤ length s → length (take (e - a) (drop a s)) ≡ e - a
+  part-length h = simp (length-take, length-drop) (omega arith)
+
+  pub part-at : (z : A) (i : ℕ) → a + i < e → getD (take (e - a) (drop a s)) i z ≡ getD s (a + i) z
+  part-at z i h = let k : i < e - a = omega arith in rw (getD-take, getD-drop)
+
+  pub part-none : e ≤ a → take (e - a) (drop a s) ≡ []
+  part-none h = let z : e - a ≡ 0 = omega arith in rw z
+
+  pub part-next : (z : A) → a < e → e ≤ length s → take (e - a) (drop a s) ≡ getD s a z ∷ take (e - (a + 1)) (drop (a + 1) s)
+  part-next z h k = let w : e - a ≡ suc (e - (a + 1)) = omega arith in let l : a < length s = omega arith in rw (w, next-of z s a l)
+
+  pub part-split : a ≤ e → drop a s ≡ take (e - a) (drop a s) ++ drop e s
+  part-split h =
+      let z : a + (e - a) ≡ e = omega arith in
+      let q : drop (e - a) (drop a s) ≡ drop e s = drop-drop (e - a) a s ∙ ap (λ (k : ℕ). drop k s) z in
+      sym (rw q at (take-append-drop (e - a) (drop a s)))
+
+  -- a part of a part
+  pub part-part : (b f : ℕ) → f ≤ e - a → take (f - b) (drop b (take (e - a) (drop a s))) ≡ take (a + f - (a + b)) (drop (a + b) s)
+  part-part b f h =
+      let z : a + f - (a + b) ≡ f - b = omega arith in
+      let k : f - b ≤ e - a - b = omega arith in
+      rw (drop-take b (e - a) (drop a s), take-take (f - b) (e - a - b) (drop b (drop a s)) k, drop-drop b a s, z)

@@ -1,0 +1,6 @@
+pub mod Laws
+pub mod Buffers
+pub mod Classes
+pub mod Numbers
+pub mod Slices
+pub mod Lists

@@ -1,0 +1,8 @@
+pub mod Choice
+pub mod Bytes
+pub mod Lists
+pub mod Class
+pub mod Slice
+pub mod Number
+pub mod Buffer
+pub mod Parts

@@ -1,0 +1,52 @@
+-- List functions that all layers share.
+use Prim.Native.Nat.{ℕ, suc}
+use mathlib.Core.Bool.{Bool, true, false}
+use mathlib.Core.List.{List, [], _∷_, _++_}
+use mathlib.Core.Option.{Option, none, some}
+use lib.Dec.{eqb}
+use Rattle.text.specs.Choice.{pick, both, either}
+
+module _ {A : Type 0} where
+  abbrev pub null : List A → Bool
+  null [] = true
+  null (x ∷ xs) = false
+
+  -- each element passes
+  unfoldable pub all : (A → Bool) → List A → Bool
+  all f [] = true
+  all f (x ∷ xs) = both (f x) (all f xs)
+
+  -- some element passes
+  unfoldable pub any : (A → Bool) → List A → Bool
+  any f [] = false
+  any f (x ∷ xs) = either (f x) (any f xs)
+
+  -- how many elements pass
+  unfoldable pub count : (A → Bool) → List A → ℕ
+  count f [] = 0
+  count f (x ∷ xs) = pick (f x) (suc (count f xs)) (count f xs)
+
+  -- the first fault wins: the first that is one
+  abbrev pub firstOf : Option A → Option A → Option A
+  firstOf none o = o
+  firstOf (some x) o = some x
+
+  -- the first of the faults that each element has
+  unfoldable pub firstFault : {B : Type 0} → (B → Option A) → List B → Option A
+  firstFault f [] = none
+  firstFault f (x ∷ xs) = firstOf (f x) (firstFault f xs)
+
+-- the byte is there
+unfoldable pub has : ℕ → List ℕ → Bool
+unfolding any
+has c s = any (λ b. eqb b c) s
+
+-- the byte in front of the first part
+abbrev pub onto : ℕ → List (List ℕ) → List (List ℕ)
+onto b [] = (b ∷ []) ∷ []
+onto b (p ∷ ps) = (b ∷ p) ∷ ps
+
+-- the parts between the bytes c: one more than there are such bytes
+unfoldable pub splitAt : ℕ → List ℕ → List (List ℕ)
+splitAt c [] = [] ∷ []
+splitAt c (b ∷ s) = pick (eqb b c) ([] ∷ splitAt c s) (onto b (splitAt c s))

@@ -1,0 +1,42 @@
+// Bytes put into a lent buffer from a place on; the rest of it stays.
+ghost use mathlib.Core.List.{[], _∷_};
+ghost use Rattle.text.specs.Buffer.{Wrote};
+
+pub enum Filled {
+    // The place after the last byte.
+    Done(usize),
+    Full,
+}
+
+// One byte.
+pub fn put(out: &mut [u8], n: usize, b: u8) -> Filled
+    ensures { λ r. ⌜ Wrote (now (out .entry)) (now (out .exit)) n (b ∷ []) r ⌝ }
+{
+    if n < out.len() {
+        out[n] = b;
+        Filled::Done(n + 1)
+    } else {
+        Filled::Full
+    }
+}
+
+// A slice, as far as it fits.
+pub fn put_all(out: &mut [u8], n: usize, s: &[u8]) -> Filled
+    ensures { λ r. ⌜ Wrote (now (out .entry)) (now (out .exit)) n (now (s .entry)) r ⌝ }
+{
+    if n > out.len() {
+        return Filled::Full;
+    }
+    let mut m = n;
+    let mut i = 0;
+    while i < s.len() {
+        if m < out.len() {
+            out[m] = s[i];
+            m += 1;
+            i += 1;
+        } else {
+            return Filled::Full;
+        }
+    }
+    Filled::Done(m)
+}

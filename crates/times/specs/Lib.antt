@@ -1,0 +1,5 @@
+pub mod Parts
+pub mod Day
+pub mod Clock
+pub mod Item
+pub mod Rule

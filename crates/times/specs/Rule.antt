@@ -1,0 +1,26 @@
+-- The rule over the time items of an entry (01, "Entries", and 002).
+use Prim.Native.Nat.{ℕ}
+use mathlib.Core.Bool.{Bool, true, false, not}
+use mathlib.Core.List.{List, [], _∷_}
+use mathlib.Core.Option.{Option, none, some}
+use Rattle.text.specs.Choice.{pick}
+use Rattle.text.specs.Lists.{all, firstOf}
+
+-- one item of an entry: whether its condition is negated, and whether it matches the minute asked for
+pub record TimeMark : Type 0 where
+  pub negated : Bool
+  pub matches : Bool
+
+-- the rightmost matching item, if one matches
+unfoldable pub rightmost : List TimeMark → Option TimeMark
+rightmost [] = none
+rightmost (x ∷ xs) = firstOf (rightmost xs) (pick (x .matches) (some x) none)
+
+abbrev pub decided : Option TimeMark → List TimeMark → Bool
+decided none xs = all (λ x. x .negated) xs
+decided (some x) xs = not (x .negated)
+
+-- "The rightmost matching item decides. If none matches: accepted when there is no time item or all are negated, else not"
+unfoldable pub timesAccept : List TimeMark → Bool
+unfolding rightmost all
+timesAccept xs = decided (rightmost xs) xs

@@ -1,0 +1,2 @@
+mod State
+mod Names

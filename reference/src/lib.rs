@@ -1,0 +1,19 @@
+//! A reader of rule tables: a table and a question give one answer.
+
+pub mod answer;
+pub mod bytes;
+pub mod cases;
+pub mod entry;
+pub mod fault;
+pub mod glob;
+pub mod hexadecimal;
+pub mod lines;
+pub mod options;
+pub mod pattern;
+pub mod probe;
+pub mod program;
+pub mod question;
+pub mod reader;
+pub mod times;
+pub mod users;
+pub mod variables;
