@@ -1,6 +1,9 @@
 pub mod Lines
 pub mod Cut
+pub mod Numbers
 pub mod Refusals
 pub mod Search
 pub mod Counting
-pub mod Numbers
+pub mod Bounds
+pub mod Scanning
+pub mod Results

@@ -33,7 +33,7 @@ impl Counts {
     }
 
     // The field that is read, if one has begun, is complete.
-    fn close(self) -> Counts
+    pub fn close(self) -> Counts
         requires { ⌜ Small 0 self ⌝ }
         ensures { λ r. ⌜ r ≡ closedOff self ⌝ }
     {
@@ -82,7 +82,7 @@ impl Counts {
     }
 
     // With what one byte of the line adds.
-    fn add_given(self, given: Given, out: &mut [u8]) -> Counts
+    pub fn add_given(self, given: Given, out: &mut [u8]) -> Counts
         requires { ⌜ Small 2 self ⌝ }
         ensures { λ r. ⌜ (r ≡ countedAll self (givenMarks given)) × (now (out .exit) ≡ laid (now (out .entry)) (self .kept) (keptOf (givenMarks given))) ⌝ }
     {

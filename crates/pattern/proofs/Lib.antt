@@ -3,3 +3,8 @@ pub mod Pieces
 pub mod Fuel
 pub mod Readings
 pub mod Matching
+pub mod Parting
+pub mod Expansions
+pub mod Expanding
+pub mod Lengths
+pub mod Wholes

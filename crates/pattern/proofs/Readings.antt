@@ -1,27 +1,27 @@
 -- What is told of a reading, one step at a time, and at a place of a pattern. Assumes nothing.
-use Prim.Native.Nat.{ℕ, zero, suc, _+_, _*_, _-_, _≤_, _<_, min, max}
 use mathlib.Core.Path.{_≡_, refl, sym, ap, _∙_}
 use mathlib.Core.Bool.{Bool, true, false}
 use mathlib.Core.List.{List, [], _∷_}
-use mathlib.Core.Option.{Option, none, some}
+use mathlib.Core.Option.{none, some}
+use Prim.Native.Nat.{ℕ, zero, suc, _+_, _*_, _≤_, _<_, min, max}
 use native.Mathlib.Omega.{arith}
 use native.Mathlib.Nat.{mul-comm, mul-pos}
 use native.Mathlib.Decide.{decLe}
-use borrow.Author.Tests.{eq-eqb, ne-eqb}
+use borrow.Author.Tests.{ne-eqb}
 use lib.Dec.{eqb}
-use lib.ListN.{length, take, drop, getD, drop-of-length-le}
+use lib.ListN.{length, drop, getD, drop-of-length-le}
 use Rattle.text.specs.Choice.{pick}
 use Rattle.text.proofs.Laws.{next}
 use Rattle.pattern.specs.declared.Kind.{Kind}
-use Rattle.pattern.specs.declared.Shape.the-variants.{Malformed as ShapeMalformed, Read}
 use Rattle.pattern.specs.declared.mark.Mark.the-variants.{Opens, Stops, Stray, Begins}
-use Rattle.pattern.specs.declared.piece.Piece.the-variants.{To, Malformed as PieceMalformed}
 use Rattle.pattern.specs.declared.reader.Reading.{Reading}
 use Rattle.pattern.specs.declared.reader.Reading.the-variants.{Done, Malformed}
-use Rattle.pattern.specs.Tree.{Tree, empty, piece, list, or, depth, number, markOf, Cut, firstPiece, Out, ok, malformed, bind, atPiece, atByte, atEnd, afterOne, patternOf, listOf, treeIn, treeOf}
-use Rattle.pattern.specs.Whole.{sizeOf, shapeIn, shapeOf}
-use Rattle.pattern.specs.Steps.{PieceAt, Seen, done, bad, seen, seenIn, Inside, Within, Reads}
+use Rattle.pattern.specs.Tree.{Tree, empty, piece, list, or, depth, number, markOf, Cut, firstPiece, Out, ok, malformed, bind, atEnd, afterOne, patternOf, listOf, treeIn}
+use Rattle.pattern.specs.Whole.{sizeOf, shapeIn}
+use Rattle.pattern.specs.Steps.{PieceAt, Seen, done, bad, seen, seenIn, Within, Reads}
 use Rattle.pattern.proofs.Fuel.{pattern-none, pattern-first, list-first}
+use Rattle.pattern.specs.declared.Shape.the-variants.{Malformed as ShapeMalformed, Read}
+use Rattle.pattern.specs.declared.piece.Piece.the-variants.{To, Malformed as PieceMalformed}
 
 -- ---- numbers up to 65
 abbrev pub cap : ℕ → ℕ
@@ -89,9 +89,11 @@ module _ (kind : Kind) (inside : Bool) where
     where
       rl : List ℕ → Out
       rl = listOf kind inside
+
       at-end : (a : Tree) (t : List ℕ) (b : Bool) → seen (atEnd rl b a t) ≡ pick b (done t (depth a) (cap (number a))) (sum (depth a) (cap (number a)) (seen (rl t)))
       at-end a t true = refl
       at-end a t false = seen-or a (rl t)
+
       go : (i : Bool) (o : Out) → seen (bind o (λ a r. afterOne rl i a r)) ≡ listed i (seen o) (λ t. seen (rl t))
       go i malformed = refl
       go true (ok a []) = refl
@@ -134,16 +136,20 @@ further p at next Malformed h w = tt
 
 module _ (kind : Kind) (inside : Bool) (p : List ℕ) (at : ℕ) where
   pub pattern-end : length p ≤ at → at ≤ length p → Reads p at (Done at 0 1) (patternOf kind inside (drop at p))
-  pattern-end l g = record { within = record { low = omega arith; high = g; deep = omega arith; some = omega arith; small = omega arith };
-    same = rw (drop-of-length-le p l) (sym (seen-none kind inside)) }
+  pattern-end l g = record {
+    within = record { low = omega arith; high = g; deep = omega arith; some = omega arith; small = omega arith };
+    same = rw (drop-of-length-le p l) (sym (seen-none kind inside));
+  }
 
   module _ (l : at < length p) where
     pub pattern-opens : Opens ≡ markOf kind inside (getD p at 0) → (q r : Reading) → Reads p (at + 1) q (listOf kind true (drop (at + 1) p)) → Within p at r → seenIn p r ≡ times (seenIn p q) (λ s. seen (patternOf kind inside s)) → Reads p at r (patternOf kind inside (drop at p))
     pattern-opens e q r w i f = record { within = i; same = f ∙ rw (next p at l) (rw (w .same) (sym (seen-opens kind inside _ _ (sym e)))) }
 
     pub pattern-stops : Stops ≡ markOf kind inside (getD p at 0) → Reads p at (Done at 0 1) (patternOf kind inside (drop at p))
-    pattern-stops e = record { within = record { low = omega arith; high = omega arith; deep = omega arith; some = omega arith; small = omega arith };
-      same = rw (next p at l) (sym (seen-stops kind inside _ _ (sym e))) }
+    pattern-stops e = record {
+      within = record { low = omega arith; high = omega arith; deep = omega arith; some = omega arith; small = omega arith };
+      same = rw (next p at l) (sym (seen-stops kind inside _ _ (sym e)));
+    }
 
     pub pattern-stray : Stray ≡ markOf kind inside (getD p at 0) → Reads p at Malformed (patternOf kind inside (drop at p))
     pattern-stray e = record { within = tt; same = rw (next p at l) (sym (seen-stray kind inside _ _ (sym e))) }

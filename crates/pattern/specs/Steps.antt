@@ -15,6 +15,7 @@ use Rattle.pattern.specs.declared.piece.Piece.{Piece}
 use Rattle.pattern.specs.declared.piece.Piece.the-variants.{To, Malformed}
 use Rattle.pattern.specs.declared.reader.Reading.{Reading}
 use Rattle.pattern.specs.declared.reader.Reading.the-variants.{Done, Malformed as ReadingMalformed}
+use Rattle.pattern.specs.declared.alternative.Place.{Place}
 use Rattle.pattern.specs.declared.alternative.Place.the-variants.{Free}
 use Rattle.pattern.specs.declared.alternative.Parted.{Parted}
 use Rattle.pattern.specs.declared.alternative.Parted.the-variants.{Malformed as PartedMalformed, Name, NameAtHost}
@@ -109,16 +110,16 @@ abbrev pub Holds : Out → ℕ → Type 0
 Holds (ok t r) k = (k < number t) × (number t ≤ 64)
 Holds malformed k = ⊥
 
--- the parts, where the first of those from `from` on ends at e
+-- a first part, and those behind the `@` that ends it
 abbrev pub partsBy : List ℕ → List ℕ → List (List ℕ)
 partsBy p [] = p ∷ []
 partsBy p (c ∷ s) = p ∷ partsOf Free s
 
--- r is where the first free `@` from `from` on stands, or the length
-pub record PartsFrom (a : List ℕ) (from r : ℕ) : Type 0 where
+-- r is where the first `@` that parts stands from `from` on, read from a place of this kind, or the length
+pub record PartsFrom (w : Place) (a : List ℕ) (from r : ℕ) : Type 0 where
   pub low : from ≤ r
   pub high : r ≤ length a
-  pub parts : partsOf Free (drop from a) ≡ partsBy (take (r - from) (drop from a)) (drop r a)
+  pub parts : partsOf w (drop from a) ≡ partsBy (take (r - from) (drop from a)) (drop r a)
 
 -- the alternative that an answer tells
 abbrev pub partedIn : List ℕ → Parted → Option Alternative

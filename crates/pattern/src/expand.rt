@@ -21,13 +21,18 @@ ghost use Rattle.pattern.specs.Whole.{expansionAt};
 ghost use Rattle.pattern.specs.Steps.{Numbers, Holds, chosen};
 
 // The k-th expansion of the alternative at `at`, which has `number` of them.
-fn put_pattern(kind: Kind, p: &[u8], at: usize, inside: bool, number: usize, k: usize, out: &mut [u8], m: usize) -> Filled
-    requires {
-        ⌜ (at ≤ length (now p)) × (m ≤ length (now out)) × Numbers (patternOf kind inside (drop at (now p))) number × (number ≤ 64) × (k < number) ⌝
-    }
-    ensures {
-        λ r. ⌜ Wrote (now (out .entry)) (now (out .exit)) m (chosen k (patternOf kind inside (drop at (now (p .entry))))) r ⌝
-    }
+fn put_pattern(
+    kind: Kind,
+    p: &[u8],
+    at: usize,
+    inside: bool,
+    number: usize,
+    k: usize,
+    out: &mut [u8],
+    m: usize,
+) -> Filled
+    requires { ⌜ (at ≤ length (now p)) × (m ≤ length (now out)) × Numbers (patternOf kind inside (drop at (now p))) number × (number ≤ 64) × (k < number) ⌝ }
+    ensures { λ r. ⌜ Wrote (now (out .entry)) (now (out .exit)) m (chosen k (patternOf kind inside (drop at (now (p .entry))))) r ⌝ }
 {
     if p.len() <= at {
         return Filled::Done(m);
@@ -56,13 +61,17 @@ fn put_pattern(kind: Kind, p: &[u8], at: usize, inside: bool, number: usize, k: 
 }
 
 // The k-th expansion of the list at `at`: each alternative's come behind those of the ones before it.
-fn put_list(kind: Kind, p: &[u8], at: usize, inside: bool, k: usize, out: &mut [u8], m: usize) -> Filled
-    requires {
-        ⌜ (at ≤ length (now p)) × (m ≤ length (now out)) × Holds (listOf kind inside (drop at (now p))) k ⌝
-    }
-    ensures {
-        λ r. ⌜ Wrote (now (out .entry)) (now (out .exit)) m (chosen k (listOf kind inside (drop at (now (p .entry))))) r ⌝
-    }
+fn put_list(
+    kind: Kind,
+    p: &[u8],
+    at: usize,
+    inside: bool,
+    k: usize,
+    out: &mut [u8],
+    m: usize,
+) -> Filled
+    requires { ⌜ (at ≤ length (now p)) × (m ≤ length (now out)) × Holds (listOf kind inside (drop at (now p))) k ⌝ }
+    ensures { λ r. ⌜ Wrote (now (out .entry)) (now (out .exit)) m (chosen k (listOf kind inside (drop at (now (p .entry))))) r ⌝ }
 {
     match pattern(kind, p, at, inside) {
         Reading::Done(next, _, n) => {
@@ -80,9 +89,7 @@ fn put_list(kind: Kind, p: &[u8], at: usize, inside: bool, k: usize, out: &mut [
 
 // The k-th expansion of a pattern that passes no limit, from the buffer's beginning on; nothing where there is none.
 pub fn expansion(kind: Kind, p: &[u8], k: usize, out: &mut [u8]) -> Filled
-    ensures {
-        λ r. ⌜ Wrote (now (out .entry)) (now (out .exit)) 0 (expansionAt kind (now (p .entry)) k) r ⌝
-    }
+    ensures { λ r. ⌜ Wrote (now (out .entry)) (now (out .exit)) 0 (expansionAt kind (now (p .entry)) k) r ⌝ }
 {
     if p.len() > Pattern::BYTES {
         return Filled::Done(0);

@@ -31,7 +31,9 @@ pub struct Pattern {
 
 impl Pattern {
     pub const DEPTH: usize = 4;
+
     pub const EXPANSIONS: usize = 64;
+
     pub const BYTES: usize = 1024;
 
     // Whether it passes no limit.

@@ -10,7 +10,7 @@ ghost use mathlib.Core.Path.{_≡_};
 ghost use Prim.Native.Nat.{_≤_};
 ghost use lib.ListN.{length, drop};
 ghost use Rattle.pattern.specs.Match.{matches};
-ghost use Rattle.pattern.specs.Whole.{matchesPattern};
+ghost use Rattle.pattern.specs.Whole.{expansionsOf, expansionAt, matchesPattern};
 
 // Whether the pattern from `i` on matches all of `s` from `j` on.
 fn matches_at(p: &[u8], i: usize, s: &[u8], j: usize) -> bool
@@ -70,18 +70,27 @@ pub fn matches_expansion(p: &[u8], name: &[u8]) -> bool
     matches_at(p, 0, name, 0)
 }
 
-// Whether one of the first `number` expansions matches the whole name.
-fn matches_one(kind: Kind, p: &[u8], number: usize, name: &[u8]) -> bool {
+// Whether the k-th expansion matches the whole name.
+fn matches_nth(kind: Kind, p: &[u8], k: usize, name: &[u8]) -> bool
+    requires { ⌜ length (now p) ≤ 1024 ⌝ }
+    ensures { λ r. ⌜ r ≡ matches (expansionAt kind (now (p .entry)) k) (now (name .entry)) ⌝ }
+{
     let mut out = [0u8; Pattern::BYTES];
+    match expansion(kind, p, k, &mut out) {
+        Filled::Done(n) => matches_expansion(&out[..n], name),
+        Filled::Full => false,
+    }
+}
+
+// Whether one of the expansions, which are so many, matches the whole name.
+fn matches_one(kind: Kind, p: &[u8], number: usize, name: &[u8]) -> bool
+    requires { ⌜ (length (now p) ≤ 1024) × (number ≡ length (expansionsOf kind (now p))) ⌝ }
+    ensures { λ r. ⌜ r ≡ matchesPattern kind (now (p .entry)) (now (name .entry)) ⌝ }
+{
     let mut k = 0;
     while k < number {
-        match expansion(kind, p, k, &mut out) {
-            Filled::Done(n) => {
-                if matches_expansion(&out[..n], name) {
-                    return true;
-                }
-            }
-            Filled::Full => {}
+        if matches_nth(kind, p, k, name) {
+            return true;
         }
         k += 1;
     }

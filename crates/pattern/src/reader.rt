@@ -23,7 +23,11 @@ pub enum Reading {
 fn capped(n: usize) -> usize
     ensures { λ r. ⌜ r ≡ min n 65 ⌝ }
 {
-    if n <= Pattern::EXPANSIONS { n } else { Pattern::EXPANSIONS + 1 }
+    if n <= Pattern::EXPANSIONS {
+        n
+    } else {
+        Pattern::EXPANSIONS + 1
+    }
 }
 
 fn larger(a: usize, b: usize) -> usize
@@ -87,7 +91,10 @@ pub fn read_pattern(kind: Kind, p: &[u8]) -> Shape
     ensures { λ r. ⌜ r ≡ shapeOf kind (now (p .entry)) ⌝ }
 {
     match list(kind, p, 0, false) {
-        Reading::Done(_, depth, number) => Shape::Read(Pattern { depth: depth, number: number }),
+        Reading::Done(_, depth, number) => Shape::Read(Pattern {
+            depth: depth,
+            number: number,
+        }),
         Reading::Malformed => Shape::Malformed,
     }
 }

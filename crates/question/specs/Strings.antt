@@ -18,16 +18,23 @@ unfoldable pub stringsOf : List ℕ → Option (List (List ℕ))
 stringsOf [] = some []
 stringsOf (b ∷ s) = inFront b (eqb b 0) (stringsOf s)
 
-abbrev pub listed : Option (List (List ℕ)) → List (List ℕ)
-listed none = []
-listed (some ps) = ps
+-- a test of the strings; a list that has none fails it
+abbrev pub whenStrings : (List (List ℕ) → Bool) → Option (List (List ℕ)) → Bool
+whenStrings test none = false
+whenStrings test (some ps) = test ps
 
--- the strings that a list holds: nothing of a list that is not of this form
+-- the byte in front of the first string, if there is one
+abbrev pub into : ℕ → Bool → List (List ℕ) → List (List ℕ)
+into b true ps = [] ∷ ps
+into b false [] = []
+into b false (p ∷ ps) = (b ∷ p) ∷ ps
+
+-- the strings of any list, bytes behind the last zero left out; where `stringsOf` is something, the same strings
 unfoldable pub stringsIn : List ℕ → List (List ℕ)
-unfolding stringsOf
-stringsIn s = listed (stringsOf s)
+stringsIn [] = []
+stringsIn (b ∷ s) = into b (eqb b 0) (stringsIn s)
 
--- how many bytes stand before the first byte c, or before the end
-unfoldable pub lead : ℕ → List ℕ → ℕ
-lead c [] = 0
-lead c (b ∷ s) = pick (eqb b c) 0 (suc (lead c s))
+-- how many bytes stand before the first zero, or before the end
+unfoldable pub untilZero : List ℕ → ℕ
+untilZero [] = 0
+untilZero (b ∷ s) = pick (eqb b 0) 0 (suc (untilZero s))

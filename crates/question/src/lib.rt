@@ -1,4 +1,7 @@
 // The question: its types, its limits, and whether one is as document 01 wants it.
+pub mod form; // whether a question is good
+pub mod password; // whether a password is needed
+pub mod strings; // zero-ended strings, one after the other
 
 // A minute of the week; Monday 0:00 is 0. It is never added to an age or compared with one.
 pub struct WeekMinute(pub u16);

@@ -8,12 +8,14 @@ use lib.ListN.{length}
 use Rattle.text.specs.Choice.{pick, both}
 use Rattle.text.specs.Number.{numberOf}
 use Rattle.text.specs.declared.number.Number.{Number}
-use Rattle.text.specs.declared.number.Number.the-variants.{Value, Malformed}
-use Rattle.times.specs.Parts.{Parts, partAt}
+use Rattle.text.specs.declared.number.Number.the-variants.{Value, Malformed as NoNumber}
+use Rattle.times.specs.declared.clock.ClockRead.{ClockRead}
+use Rattle.times.specs.declared.clock.ClockRead.the-variants.{At, Malformed}
+use Rattle.text.specs.Parts.{Parts, partAt}
 
 abbrev pub valueOf : Number → Option ℕ
 valueOf (Value v) = some v
-valueOf Malformed = none
+valueOf NoNumber = none
 
 -- "hh has one or two digits"
 unfoldable pub hourOf : List ℕ → Option ℕ
@@ -45,3 +47,8 @@ clockParts s (some p) = minuteAt (hourOf (p .front)) (minuteOf (p .back))
 unfoldable pub clockOf : List ℕ → Option ℕ
 unfolding partAt hourOf minuteOf
 clockOf s = clockParts s (partAt 58 s)
+
+-- the code's answer as the definition's
+abbrev pub clockRead : ClockRead → Option ℕ
+clockRead (At m) = some m
+clockRead Malformed = none

@@ -9,6 +9,8 @@ use Rattle.text.specs.Choice.{pick, both}
 use Rattle.text.specs.Class.{within}
 use Rattle.text.specs.Bytes.{bytes}
 use Rattle.text.specs.Slice.{same}
+use Rattle.times.specs.declared.day.DayRead.{DayRead}
+use Rattle.times.specs.declared.day.DayRead.the-variants.{Is, Malformed}
 use Rattle.times.specs.declared.item.Day.{Day}
 use Rattle.times.specs.declared.item.Day.the-variants.{Every, Only}
 
@@ -45,3 +47,8 @@ dayAmong d (name ∷ names) s = pick (shortens s name) (some (Only d)) (dayAmong
 unfoldable pub dayOf : List ℕ → Option Day
 unfolding same dayAmong dayNames
 dayOf s = pick (same s (bytes "*")) (some Every) (pick (leb 3 (length s)) (dayAmong 0 dayNames s) none)
+
+-- the code's answer as the definition's
+abbrev pub dayRead : DayRead → Option Day
+dayRead (Is day) = some day
+dayRead Malformed = none

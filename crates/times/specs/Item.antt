@@ -14,7 +14,13 @@ use Rattle.times.specs.declared.item.Day.{Day}
 use Rattle.times.specs.declared.item.Day.the-variants.{Every, Only}
 use Rattle.times.specs.declared.item.Span.{Span}
 use Rattle.times.specs.declared.item.Span.the-variants.{Between, Before, After, UpTo, Since, AllDay}
-use Rattle.times.specs.Parts.{Parts, partAt}
+use Rattle.times.specs.declared.item.SpanRead.{SpanRead}
+use Rattle.times.specs.declared.item.SpanRead.the-variants.{Is, Malformed}
+use Rattle.times.specs.declared.item.ItemRead.{ItemRead}
+use Rattle.times.specs.declared.item.ItemRead.the-variants.{Item, Malformed as NoItem}
+use Rattle.times.specs.declared.item.ItemAnswer.{ItemAnswer}
+use Rattle.times.specs.declared.item.ItemAnswer.the-variants.{Matches, Misses, Malformed as NoAnswer}
+use Rattle.text.specs.Parts.{Parts, partAt}
 use Rattle.times.specs.Day.{dayOf}
 use Rattle.times.specs.Clock.{clockOf}
 
@@ -81,3 +87,22 @@ inSpan AllDay m = true
 unfoldable pub itemMatches : TimeItem → ℕ → Bool
 unfolding onDay inSpan
 itemMatches item minute = both (onDay (item .day) (minute / 1440)) (inSpan (item .span) (minute % 1440))
+
+-- the code's answers as the definition's
+abbrev pub spanRead : SpanRead → Option Span
+spanRead (Is span) = some span
+spanRead Malformed = none
+
+abbrev pub itemRead : ItemRead → Option TimeItem
+itemRead (Item item) = some item
+itemRead NoItem = none
+
+abbrev pub answered : Bool → ItemAnswer
+answered true = Matches
+answered false = Misses
+
+-- what an expansion says of a minute of the week
+unfoldable pub itemAnswer : Option TimeItem → ℕ → ItemAnswer
+unfolding itemMatches
+itemAnswer none minute = NoAnswer
+itemAnswer (some item) minute = answered (itemMatches item minute)

@@ -1,4 +1,3 @@
-pub mod Parts
 pub mod Day
 pub mod Clock
 pub mod Item

@@ -3,7 +3,8 @@ use Prim.Native.Nat.{ℕ}
 use mathlib.Core.Bool.{Bool, true, false, not}
 use mathlib.Core.List.{List, [], _∷_}
 use mathlib.Core.Option.{Option, none, some}
-use Rattle.text.specs.Choice.{pick}
+use Rattle.text.specs.Choice.{pick, both}
+use Rattle.times.specs.declared.rule.TimeRule.{TimeRule}
 use Rattle.text.specs.Lists.{all, firstOf}
 
 -- one item of an entry: whether its condition is negated, and whether it matches the minute asked for
@@ -24,3 +25,19 @@ decided (some x) xs = not (x .negated)
 unfoldable pub timesAccept : List TimeMark → Bool
 unfolding rightmost all
 timesAccept xs = decided (rightmost xs) xs
+
+-- what is kept of the items so far, with one item more
+unfoldable pub marked : TimeRule → TimeMark → TimeRule
+marked rule x =
+    pick (x .matches) (record { matched = true; accepts = not (x .negated) })
+    (pick (rule .matched) rule (record { matched = false; accepts = both (rule .accepts) (x .negated) }))
+
+-- no item so far
+unfoldable pub unmarked : TimeRule
+unmarked = record { matched = false; accepts = true }
+
+-- and with all of these
+unfoldable pub markedAll : TimeRule → List TimeMark → TimeRule
+unfolding marked
+markedAll rule [] = rule
+markedAll rule (x ∷ xs) = markedAll (marked rule x) xs

@@ -1,3 +1,5 @@
 // Time conditions: time items, the day names, and the rule over several items.
+pub mod clock; // clock times
+pub mod day; // day names
 pub mod item; // time items, and the minutes that they match
 pub mod rule; // the rule over the items of an entry

@@ -1,2 +1,5 @@
 mod State
 mod Names
+mod Pieces
+mod Places
+mod Turns

@@ -16,8 +16,10 @@ use Rattle.variables.specs.declared.field.Place.{Place}
 use Rattle.variables.specs.declared.field.Place.the-variants.{Name, Missing}
 use Rattle.variables.specs.declared.field.Named.{Named}
 use Rattle.variables.specs.declared.field.Named.the-variants.{Put, Unknown}
+use Rattle.variables.specs.declared.field.Referred.{Referred}
+use Rattle.variables.specs.declared.field.Referred.the-variants.{Known, Bad}
 use Rattle.variables.specs.Scope.{Scope}
-use Rattle.variables.specs.Substitute.{Reference, sized, known, reference, pieces, joined, joinedUpToBad, refers}
+use Rattle.variables.specs.Substitute.{Reference, sized, known, reference, textIn, sizeIn, pieces, joined, joinedUpToBad, refers}
 
 -- the answer where n bytes of text stand in front
 abbrev pub answerFrom : ℕ → Option (List ℕ) → FieldText
@@ -54,7 +56,26 @@ pub record Places (r : List ℕ) (p : Place) : Type 0 where
   pub refer : (s : Scope) → referenceAt s r p ≡ reference s r
   pub inside : Inside r p
 
--- a known text was laid behind the first n bytes, and counted
-abbrev pub Puts : Option (List ℕ) → ℕ → List ℕ → List ℕ → Named → Type 0
-Puts none n old new r = (r ≡ Unknown) × (new ≡ old)
-Puts (some t) n old new r = (r ≡ Put (min (n + length t) 1025)) × (new ≡ laid old n t)
+-- the count of all bytes of text after a known text, up to one past the limit
+abbrev pub namedFrom : ℕ → Option (List ℕ) → Named
+namedFrom n none = Unknown
+namedFrom n (some t) = Put (min (n + length t) 1025)
+
+abbrev pub textOr : Option (List ℕ) → List ℕ
+textOr none = []
+textOr (some t) = t
+
+-- the text, where there is one, was laid behind the first n bytes, and counted
+pub record Puts (o : Option (List ℕ)) (n : ℕ) (old new : List ℕ) (r : Named) : Type 0 where
+  pub answer : r ≡ namedFrom n o
+  pub bytes : new ≡ laid old n (textOr o)
+
+abbrev pub referredFrom : ℕ → Option Reference → Referred
+referredFrom n none = Bad
+referredFrom n (some t) = Known (t .size) (min (n + length (t .text)) 1025)
+
+-- the text of the reference that r begins with was laid behind the first n bytes, and counted
+pub record Refers (s : Scope) (r : List ℕ) (n : ℕ) (old new : List ℕ) (a : Referred) : Type 0 where
+  pub answer : a ≡ referredFrom n (reference s r)
+  pub bytes : new ≡ laid old n (textOr (textIn (reference s r)))
+  pub inside : sizeIn (reference s r) ≤ length r

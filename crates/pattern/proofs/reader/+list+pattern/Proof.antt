@@ -1,20 +1,15 @@
+use mathlib.Core.Path.{refl, sym, _∙_}
+use Prim.Native.Nat.{ℕ, _+_, _-_, _*_, _<_}
 use native.Mathlib.Omega.{arith}
-use borrow.Author.Needs.{needs}
-use mathlib.Core.Path.{_≡_, refl, sym, ap, _∙_}
-use mathlib.Core.Bool.{Bool, true, false, not}
-use mathlib.Core.List.{List, [], _∷_, _++_}
-use mathlib.Core.Logic.{_⊎_, inl, inr}
-use Prim.Native.Nat.{ℕ, _+_, _-_, _*_, _≤_, _<_}
-use borrow.Author.Tests.{eq-eqb, ne-eqb, lt-ltb, le-ltb, le-leb, lt-leb, eqb-true, eqb-false, not-true, not-false}
-use lib.Dec.{eqb, leb, ltb}
-use lib.ListN.{length, take, drop, getD, set, length-set, drop-of-length-le}
-use Rattle.text.specs.Choice.{pick, both, either}
-use Rattle.text.proofs.Laws.{next, part-rest}
 use native.Mathlib.Nat.{mul-le-mul, mul-pos}
-use Rattle.pattern.proofs.Readings.{cap, sum, scaled, times, pattern-end, pattern-opens, pattern-stops, pattern-stray, pattern-piece, pattern-bad, list-fault, list-open, list-ends, list-closes, list-more}
-use Prim.Native.Nat.{ℕ, _<_}
+use borrow.Author.Needs.{needs}
 use borrow.Fn.Kinds.{In}
 use borrow.Fn.PlainCycle.{Measures, is, falls, and}
+use lib.ListN.{length}
+use Rattle.text.proofs.Laws.{next}
+use Rattle.pattern.proofs.Readings.{pattern-end, pattern-opens, pattern-stops, pattern-stray, pattern-piece, pattern-bad, list-fault, list-open, list-ends, list-closes, list-more}
+use Rattle.pattern.proofs.reader.+list+pattern.{statement}
+use Rattle.pattern.proofs.reader.+list+pattern.Tie.{close}
 use Rattle.pattern.proofs.reader.list.Reads as list
 use Rattle.pattern.proofs.reader.list.Kinds as list-kinds
 use Rattle.pattern.proofs.reader.+list+pattern.Lts-list as list-lts
@@ -25,8 +20,6 @@ use Rattle.pattern.proofs.mark.mark_of.Reads as mark-of-reads
 use Rattle.pattern.proofs.piece.piece_end.Reads as piece-end-reads
 use Rattle.pattern.proofs.reader.capped.Reads as capped-reads
 use Rattle.pattern.proofs.reader.larger.Reads as larger-reads
-use Rattle.pattern.proofs.reader.+list+pattern.{statement}
-use Rattle.pattern.proofs.reader.+list+pattern.Tie.{close}
 
 abbrev μ-list : Measures 1 list-kinds.ps ℕ
 μ-list κs a = 2 * (length (a .1 .0 .now) - a .1 .1 .0) + 1
@@ -46,635 +39,139 @@ pattern-at t = and 1 pattern-kinds.ps (is 1 pattern-kinds.ps μ-pattern t) patte
 abbrev pattern-below : ℕ → In 1 pattern-kinds.ps
 pattern-below t = and 1 pattern-kinds.ps (falls 1 pattern-kinds.ps _<_ μ-pattern t) pattern.Pre
 
--- src/reader.rt:65:11
-list-pattern-requires : (t : ℕ) → list-lts.Need-pattern-requires (
-  pattern-below t,
-  pattern.Post,
-  list-below t,
-  list.Post,
-  larger-reads.Asked,
-  larger-reads.Learnt,
-  capped-reads.Asked,
-  capped-reads.Learnt,
-) (list-at t) list.Post
+abbrev list-calls : ℕ → list-lts.Claims
+list-calls t = (pattern-below t, pattern.Post, list-below t, list.Post, larger-reads.Asked, larger-reads.Learnt, capped-reads.Asked, capped-reads.Learnt)
+
+abbrev pattern-calls : ℕ → pattern-lts.Claims
+pattern-calls t = (mark-of-reads.Asked, mark-of-reads.Learnt, list-below t, list.Post, pattern-below t, pattern.Post, larger-reads.Asked, larger-reads.Learnt, capped-reads.Asked, capped-reads.Learnt, piece-end-reads.Asked, piece-end-reads.Learnt)
+
+list-pattern-requires : (t : ℕ) → list-lts.Need-pattern-requires (list-calls t) (list-at t) list.Post
 list-pattern-requires t c κs = search needs
 
--- src/reader.rt:66:23
-list-enum-known-next : (t : ℕ) → list-lts.Need-enum-known-next (
-  pattern-below t,
-  pattern.Post,
-  list-below t,
-  list.Post,
-  larger-reads.Asked,
-  larger-reads.Learnt,
-  capped-reads.Asked,
-  capped-reads.Learnt,
-) (list-at t) list.Post
+list-enum-known-next : (t : ℕ) → list-lts.Need-enum-known-next (list-calls t) (list-at t) list.Post
 list-enum-known-next t c = search needs
 
--- src/reader.rt:69:21
-list-returns : (t : ℕ) → list-lts.Need-returns (
-  pattern-below t,
-  pattern.Post,
-  list-below t,
-  list.Post,
-  larger-reads.Asked,
-  larger-reads.Learnt,
-  capped-reads.Asked,
-  capped-reads.Learnt,
-) (list-at t) list.Post
+list-returns : (t : ℕ) → list-lts.Need-returns (list-calls t) (list-at t) list.Post
 list-returns t c = list-open _ _ _ _ _ _ _ (rw (c .before .before .before .next .given .1) at (c .before .before .before .before .before .pattern .ensures)) (c .if2 .taken) (c .before .if1 .taken)
 
--- src/reader.rt:71:17
-list-returns-2 : (t : ℕ) → list-lts.Need-returns-2 (
-  pattern-below t,
-  pattern.Post,
-  list-below t,
-  list.Post,
-  larger-reads.Asked,
-  larger-reads.Learnt,
-  capped-reads.Asked,
-  capped-reads.Learnt,
-) (list-at t) list.Post
+list-returns-2 : (t : ℕ) → list-lts.Need-returns-2 (list-calls t) (list-at t) list.Post
 list-returns-2 t c = list-ends _ _ _ _ _ _ _ (rw (c .before .before .before .next .given .1) at (c .before .before .before .before .before .pattern .ensures)) (c .if2 .left) (c .before .if1 .taken)
 
--- src/reader.rt:73:16
-list-shared-slice-read-if3 : (t : ℕ) → list-lts.Need-shared-slice-read-if3 (
-  pattern-below t,
-  pattern.Post,
-  list-below t,
-  list.Post,
-  larger-reads.Asked,
-  larger-reads.Learnt,
-  capped-reads.Asked,
-  capped-reads.Learnt,
-) (list-at t) list.Post
+list-shared-slice-read-if3 : (t : ℕ) → list-lts.Need-shared-slice-read-if3 (list-calls t) (list-at t) list.Post
 list-shared-slice-read-if3 t c = search needs
 
--- src/reader.rt:74:38
-list-add-t18 : (t : ℕ) → list-lts.Need-add-t18 (
-  pattern-below t,
-  pattern.Post,
-  list-below t,
-  list.Post,
-  larger-reads.Asked,
-  larger-reads.Learnt,
-  capped-reads.Asked,
-  capped-reads.Learnt,
-) (list-at t) list.Post
+list-add-t18 : (t : ℕ) → list-lts.Need-add-t18 (list-calls t) (list-at t) list.Post
 list-add-t18 t c = search needs
 
--- src/reader.rt:74:17
-list-returns-3 : (t : ℕ) → list-lts.Need-returns-3 (
-  pattern-below t,
-  pattern.Post,
-  list-below t,
-  list.Post,
-  larger-reads.Asked,
-  larger-reads.Learnt,
-  capped-reads.Asked,
-  capped-reads.Learnt,
-) (list-at t) list.Post
+list-returns-3 : (t : ℕ) → list-lts.Need-returns-3 (list-calls t) (list-at t) list.Post
 list-returns-3 t c = list-closes _ _ _ _ _ _ _ (rw (c .before .before .before .before .next .given .1) at (c .before .before .before .before .before .before .pattern .ensures)) (c .before .before .if1 .left) (c .if3 .taken)
 
--- src/reader.rt:76:33
-list-add-list : (t : ℕ) → list-lts.Need-add-list (
-  pattern-below t,
-  pattern.Post,
-  list-below t,
-  list.Post,
-  larger-reads.Asked,
-  larger-reads.Learnt,
-  capped-reads.Asked,
-  capped-reads.Learnt,
-) (list-at t) list.Post
+list-add-list : (t : ℕ) → list-lts.Need-add-list (list-calls t) (list-at t) list.Post
 list-add-list t c = search needs
 
--- src/reader.rt:76:19
-list-list-requires : (t : ℕ) → list-lts.Need-list-requires (
-  pattern-below t,
-  pattern.Post,
-  list-below t,
-  list.Post,
-  larger-reads.Asked,
-  larger-reads.Learnt,
-  capped-reads.Asked,
-  capped-reads.Learnt,
-) (list-at t) list.Post
+list-list-requires : (t : ℕ) → list-lts.Need-list-requires (list-calls t) (list-at t) list.Post
 list-list-requires t c κs = omega (arith, (rw (c .before .before .before .before .next .given .1) at (c .before .before .before .before .before .before .pattern .ensures)) .within)
 
--- src/reader.rt:77:31
-list-enum-known-end : (t : ℕ) → list-lts.Need-enum-known-end (
-  pattern-below t,
-  pattern.Post,
-  list-below t,
-  list.Post,
-  larger-reads.Asked,
-  larger-reads.Learnt,
-  capped-reads.Asked,
-  capped-reads.Learnt,
-) (list-at t) list.Post
+list-enum-known-end : (t : ℕ) → list-lts.Need-enum-known-end (list-calls t) (list-at t) list.Post
 list-enum-known-end t c = search needs
 
--- src/reader.rt:77:64
-list-larger-requires : (t : ℕ) → list-lts.Need-larger-requires (
-  pattern-below t,
-  pattern.Post,
-  list-below t,
-  list.Post,
-  larger-reads.Asked,
-  larger-reads.Learnt,
-  capped-reads.Asked,
-  capped-reads.Learnt,
-) (list-at t) list.Post
+list-larger-requires : (t : ℕ) → list-lts.Need-larger-requires (list-calls t) (list-at t) list.Post
 list-larger-requires t c κs = search needs
 
--- src/reader.rt:77:85
-list-add-capped : (t : ℕ) → list-lts.Need-add-capped (
-  pattern-below t,
-  pattern.Post,
-  list-below t,
-  list.Post,
-  larger-reads.Asked,
-  larger-reads.Learnt,
-  capped-reads.Asked,
-  capped-reads.Learnt,
-) (list-at t) list.Post
+list-add-capped : (t : ℕ) → list-lts.Need-add-capped (list-calls t) (list-at t) list.Post
 list-add-capped t c = omega (arith, (rw (c .before .before .before .before .before .before .before .before .before .next .given .1) at (c .before .before .before .before .before .before .before .before .before .before .before .pattern .ensures)) .within, (rw (c .before .before .end .given .1) at (c .before .before .before .before .list .ensures)) .within)
 
--- src/reader.rt:77:78
-list-capped-requires : (t : ℕ) → list-lts.Need-capped-requires (
-  pattern-below t,
-  pattern.Post,
-  list-below t,
-  list.Post,
-  larger-reads.Asked,
-  larger-reads.Learnt,
-  capped-reads.Asked,
-  capped-reads.Learnt,
-) (list-at t) list.Post
+list-capped-requires : (t : ℕ) → list-lts.Need-capped-requires (list-calls t) (list-at t) list.Post
 list-capped-requires t c κs = search needs
 
--- src/reader.rt:78:39
-list-enum-told : (t : ℕ) → list-lts.Need-enum-told (
-  pattern-below t,
-  pattern.Post,
-  list-below t,
-  list.Post,
-  larger-reads.Asked,
-  larger-reads.Learnt,
-  capped-reads.Asked,
-  capped-reads.Learnt,
-) (list-at t) list.Post
+list-enum-told : (t : ℕ) → list-lts.Need-enum-told (list-calls t) (list-at t) list.Post
 list-enum-told t c = search needs
 
--- src/reader.rt:81:31
-list-enum-told-2 : (t : ℕ) → list-lts.Need-enum-told-2 (
-  pattern-below t,
-  pattern.Post,
-  list-below t,
-  list.Post,
-  larger-reads.Asked,
-  larger-reads.Learnt,
-  capped-reads.Asked,
-  capped-reads.Learnt,
-) (list-at t) list.Post
+list-enum-told-2 : (t : ℕ) → list-lts.Need-enum-told-2 (list-calls t) (list-at t) list.Post
 list-enum-told-2 t c = search needs
 
--- src/reader.rt:61:1
-list-returns-4 : (t : ℕ) → list-lts.Need-returns-4 (
-  pattern-below t,
-  pattern.Post,
-  list-below t,
-  list.Post,
-  larger-reads.Asked,
-  larger-reads.Learnt,
-  capped-reads.Asked,
-  capped-reads.Learnt,
-) (list-at t) list.Post
-list-returns-4 t c = 
+list-returns-4 : (t : ℕ) → list-lts.Need-returns-4 (list-calls t) (list-at t) list.Post
+list-returns-4 t c =
     let r = rw (c .before .before .before .before .before .before .before .before .before .before .next .given .1) at (c .before .before .before .before .before .before .before .before .before .before .before .before .pattern .ensures) in
     let q = rw (c .before .before .before .end .given .1) at (c .before .before .before .before .before .list .ensures) in
     list-more _ _ _ _ _ _ _ r (c .before .before .before .before .before .before .before .before .if1 .left) (c .before .before .before .before .before .before .if3 .left) _ _ q
     (record { low = omega (arith, r .within, q .within); high = q .within .high; deep = omega (arith, r .within, q .within, c .before .larger .ensures); some = omega (arith, r .within, c .capped .ensures); small = omega (arith, c .capped .ensures) })
     (rw (c .capped .ensures, c .before .larger .ensures))
 
--- src/reader.rt:61:1
-list-returns-5 : (t : ℕ) → list-lts.Need-returns-5 (
-  pattern-below t,
-  pattern.Post,
-  list-below t,
-  list.Post,
-  larger-reads.Asked,
-  larger-reads.Learnt,
-  capped-reads.Asked,
-  capped-reads.Learnt,
-) (list-at t) list.Post
+list-returns-5 : (t : ℕ) → list-lts.Need-returns-5 (list-calls t) (list-at t) list.Post
 list-returns-5 t c = list-more _ _ _ _ _ _ _ (rw (c .before .before .before .before .before .before .before .next .given .1) at (c .before .before .before .before .before .before .before .before .before .pattern .ensures)) (c .before .before .before .before .before .if1 .left) (c .before .before .before .if3 .left) _ _ (rw (c .enum-told .given .1) at (c .before .before .list .ensures)) tt refl
 
--- src/reader.rt:61:1
-list-returns-6 : (t : ℕ) → list-lts.Need-returns-6 (
-  pattern-below t,
-  pattern.Post,
-  list-below t,
-  list.Post,
-  larger-reads.Asked,
-  larger-reads.Learnt,
-  capped-reads.Asked,
-  capped-reads.Learnt,
-) (list-at t) list.Post
+list-returns-6 : (t : ℕ) → list-lts.Need-returns-6 (list-calls t) (list-at t) list.Post
 list-returns-6 t c = list-fault _ _ _ _ (rw (c .enum-told2 .given .1) at (c .before .before .pattern .ensures))
 
--- src/reader.rt:41:9
-pattern-returns : (t : ℕ) → pattern-lts.Need-returns (
-  mark-of-reads.Asked,
-  mark-of-reads.Learnt,
-  list-below t,
-  list.Post,
-  pattern-below t,
-  pattern.Post,
-  larger-reads.Asked,
-  larger-reads.Learnt,
-  capped-reads.Asked,
-  capped-reads.Learnt,
-  piece-end-reads.Asked,
-  piece-end-reads.Learnt,
-) (pattern-at t) pattern.Post
+pattern-returns : (t : ℕ) → pattern-lts.Need-returns (pattern-calls t) (pattern-at t) pattern.Post
 pattern-returns t c = pattern-end _ _ _ _ (c .if1 .taken) (c .before .before .pre .1)
 
--- src/reader.rt:43:33
-pattern-shared-slice-read-mark-of : (t : ℕ) → pattern-lts.Need-shared-slice-read-mark-of (
-  mark-of-reads.Asked,
-  mark-of-reads.Learnt,
-  list-below t,
-  list.Post,
-  pattern-below t,
-  pattern.Post,
-  larger-reads.Asked,
-  larger-reads.Learnt,
-  capped-reads.Asked,
-  capped-reads.Learnt,
-  piece-end-reads.Asked,
-  piece-end-reads.Learnt,
-) (pattern-at t) pattern.Post
+pattern-shared-slice-read-mark-of : (t : ℕ) → pattern-lts.Need-shared-slice-read-mark-of (pattern-calls t) (pattern-at t) pattern.Post
 pattern-shared-slice-read-mark-of t c = search needs
 
--- src/reader.rt:43:11
-pattern-mark-of-requires : (t : ℕ) → pattern-lts.Need-mark-of-requires (
-  mark-of-reads.Asked,
-  mark-of-reads.Learnt,
-  list-below t,
-  list.Post,
-  pattern-below t,
-  pattern.Post,
-  larger-reads.Asked,
-  larger-reads.Learnt,
-  capped-reads.Asked,
-  capped-reads.Learnt,
-  piece-end-reads.Asked,
-  piece-end-reads.Learnt,
-) (pattern-at t) pattern.Post
+pattern-mark-of-requires : (t : ℕ) → pattern-lts.Need-mark-of-requires (pattern-calls t) (pattern-at t) pattern.Post
 pattern-mark-of-requires t c κs = search needs
 
--- src/reader.rt:44:44
-pattern-enum-told : (t : ℕ) → pattern-lts.Need-enum-told (
-  mark-of-reads.Asked,
-  mark-of-reads.Learnt,
-  list-below t,
-  list.Post,
-  pattern-below t,
-  pattern.Post,
-  larger-reads.Asked,
-  larger-reads.Learnt,
-  capped-reads.Asked,
-  capped-reads.Learnt,
-  piece-end-reads.Asked,
-  piece-end-reads.Learnt,
-) (pattern-at t) pattern.Post
+pattern-enum-told : (t : ℕ) → pattern-lts.Need-enum-told (pattern-calls t) (pattern-at t) pattern.Post
 pattern-enum-told t c = search needs
 
--- src/reader.rt:44:44
-pattern-add-list : (t : ℕ) → pattern-lts.Need-add-list (
-  mark-of-reads.Asked,
-  mark-of-reads.Learnt,
-  list-below t,
-  list.Post,
-  pattern-below t,
-  pattern.Post,
-  larger-reads.Asked,
-  larger-reads.Learnt,
-  capped-reads.Asked,
-  capped-reads.Learnt,
-  piece-end-reads.Asked,
-  piece-end-reads.Learnt,
-) (pattern-at t) pattern.Post
+pattern-add-list : (t : ℕ) → pattern-lts.Need-add-list (pattern-calls t) (pattern-at t) pattern.Post
 pattern-add-list t c = search needs
 
--- src/reader.rt:44:30
-pattern-list-requires : (t : ℕ) → pattern-lts.Need-list-requires (
-  mark-of-reads.Asked,
-  mark-of-reads.Learnt,
-  list-below t,
-  list.Post,
-  pattern-below t,
-  pattern.Post,
-  larger-reads.Asked,
-  larger-reads.Learnt,
-  capped-reads.Asked,
-  capped-reads.Learnt,
-  piece-end-reads.Asked,
-  piece-end-reads.Learnt,
-) (pattern-at t) pattern.Post
+pattern-list-requires : (t : ℕ) → pattern-lts.Need-list-requires (pattern-calls t) (pattern-at t) pattern.Post
 pattern-list-requires t c κs = search needs
 
--- src/reader.rt:45:27
-pattern-enum-known-next : (t : ℕ) → pattern-lts.Need-enum-known-next (
-  mark-of-reads.Asked,
-  mark-of-reads.Learnt,
-  list-below t,
-  list.Post,
-  pattern-below t,
-  pattern.Post,
-  larger-reads.Asked,
-  larger-reads.Learnt,
-  capped-reads.Asked,
-  capped-reads.Learnt,
-  piece-end-reads.Asked,
-  piece-end-reads.Learnt,
-) (pattern-at t) pattern.Post
+pattern-enum-known-next : (t : ℕ) → pattern-lts.Need-enum-known-next (pattern-calls t) (pattern-at t) pattern.Post
 pattern-enum-known-next t c = search needs
 
--- src/reader.rt:45:48
-pattern-pattern-requires : (t : ℕ) → pattern-lts.Need-pattern-requires (
-  mark-of-reads.Asked,
-  mark-of-reads.Learnt,
-  list-below t,
-  list.Post,
-  pattern-below t,
-  pattern.Post,
-  larger-reads.Asked,
-  larger-reads.Learnt,
-  capped-reads.Asked,
-  capped-reads.Learnt,
-  piece-end-reads.Asked,
-  piece-end-reads.Learnt,
-) (pattern-at t) pattern.Post
+pattern-pattern-requires : (t : ℕ) → pattern-lts.Need-pattern-requires (pattern-calls t) (pattern-at t) pattern.Post
 pattern-pattern-requires t c κs = omega (arith, (rw (c .before .next .given .1) at (c .before .before .before .list .ensures)) .within)
 
--- src/reader.rt:46:31
-pattern-enum-known-end : (t : ℕ) → pattern-lts.Need-enum-known-end (
-  mark-of-reads.Asked,
-  mark-of-reads.Learnt,
-  list-below t,
-  list.Post,
-  pattern-below t,
-  pattern.Post,
-  larger-reads.Asked,
-  larger-reads.Learnt,
-  capped-reads.Asked,
-  capped-reads.Learnt,
-  piece-end-reads.Asked,
-  piece-end-reads.Learnt,
-) (pattern-at t) pattern.Post
+pattern-enum-known-end : (t : ℕ) → pattern-lts.Need-enum-known-end (pattern-calls t) (pattern-at t) pattern.Post
 pattern-enum-known-end t c = search needs
 
--- src/reader.rt:46:71
-pattern-add-larger : (t : ℕ) → pattern-lts.Need-add-larger (
-  mark-of-reads.Asked,
-  mark-of-reads.Learnt,
-  list-below t,
-  list.Post,
-  pattern-below t,
-  pattern.Post,
-  larger-reads.Asked,
-  larger-reads.Learnt,
-  capped-reads.Asked,
-  capped-reads.Learnt,
-  piece-end-reads.Asked,
-  piece-end-reads.Learnt,
-) (pattern-at t) pattern.Post
+pattern-add-larger : (t : ℕ) → pattern-lts.Need-add-larger (pattern-calls t) (pattern-at t) pattern.Post
 pattern-add-larger t c = omega (arith, (rw (c .before .before .before .before .before .next .given .1) at (c .before .before .before .before .before .before .before .list .ensures)) .within)
 
--- src/reader.rt:46:64
-pattern-larger-requires : (t : ℕ) → pattern-lts.Need-larger-requires (
-  mark-of-reads.Asked,
-  mark-of-reads.Learnt,
-  list-below t,
-  list.Post,
-  pattern-below t,
-  pattern.Post,
-  larger-reads.Asked,
-  larger-reads.Learnt,
-  capped-reads.Asked,
-  capped-reads.Learnt,
-  piece-end-reads.Asked,
-  piece-end-reads.Learnt,
-) (pattern-at t) pattern.Post
+pattern-larger-requires : (t : ℕ) → pattern-lts.Need-larger-requires (pattern-calls t) (pattern-at t) pattern.Post
 pattern-larger-requires t c κs = search needs
 
--- src/reader.rt:46:89
-pattern-mul-capped : (t : ℕ) → pattern-lts.Need-mul-capped (
-  mark-of-reads.Asked,
-  mark-of-reads.Learnt,
-  list-below t,
-  list.Post,
-  pattern-below t,
-  pattern.Post,
-  larger-reads.Asked,
-  larger-reads.Learnt,
-  capped-reads.Asked,
-  capped-reads.Learnt,
-  piece-end-reads.Asked,
-  piece-end-reads.Learnt,
-) (pattern-at t) pattern.Post
+pattern-mul-capped : (t : ℕ) → pattern-lts.Need-mul-capped (pattern-calls t) (pattern-at t) pattern.Post
 pattern-mul-capped t c = omega (arith, mul-le-mul ((rw (c .before .before .before .before .before .before .next .given .1) at (c .before .before .before .before .before .before .before .before .list .ensures)) .within .small) ((rw (c .before .before .end .given .1) at (c .before .before .before .before .pattern .ensures)) .within .small))
 
--- src/reader.rt:46:82
-pattern-capped-requires : (t : ℕ) → pattern-lts.Need-capped-requires (
-  mark-of-reads.Asked,
-  mark-of-reads.Learnt,
-  list-below t,
-  list.Post,
-  pattern-below t,
-  pattern.Post,
-  larger-reads.Asked,
-  larger-reads.Learnt,
-  capped-reads.Asked,
-  capped-reads.Learnt,
-  piece-end-reads.Asked,
-  piece-end-reads.Learnt,
-) (pattern-at t) pattern.Post
+pattern-capped-requires : (t : ℕ) → pattern-lts.Need-capped-requires (pattern-calls t) (pattern-at t) pattern.Post
 pattern-capped-requires t c κs = search needs
 
--- src/reader.rt:47:39
-pattern-enum-told-2 : (t : ℕ) → pattern-lts.Need-enum-told-2 (
-  mark-of-reads.Asked,
-  mark-of-reads.Learnt,
-  list-below t,
-  list.Post,
-  pattern-below t,
-  pattern.Post,
-  larger-reads.Asked,
-  larger-reads.Learnt,
-  capped-reads.Asked,
-  capped-reads.Learnt,
-  piece-end-reads.Asked,
-  piece-end-reads.Learnt,
-) (pattern-at t) pattern.Post
+pattern-enum-told-2 : (t : ℕ) → pattern-lts.Need-enum-told-2 (pattern-calls t) (pattern-at t) pattern.Post
 pattern-enum-told-2 t c = search needs
 
--- src/reader.rt:49:35
-pattern-enum-told-3 : (t : ℕ) → pattern-lts.Need-enum-told-3 (
-  mark-of-reads.Asked,
-  mark-of-reads.Learnt,
-  list-below t,
-  list.Post,
-  pattern-below t,
-  pattern.Post,
-  larger-reads.Asked,
-  larger-reads.Learnt,
-  capped-reads.Asked,
-  capped-reads.Learnt,
-  piece-end-reads.Asked,
-  piece-end-reads.Learnt,
-) (pattern-at t) pattern.Post
+pattern-enum-told-3 : (t : ℕ) → pattern-lts.Need-enum-told-3 (pattern-calls t) (pattern-at t) pattern.Post
 pattern-enum-told-3 t c = search needs
 
--- src/reader.rt:51:24
-pattern-enum-told-4 : (t : ℕ) → pattern-lts.Need-enum-told-4 (
-  mark-of-reads.Asked,
-  mark-of-reads.Learnt,
-  list-below t,
-  list.Post,
-  pattern-below t,
-  pattern.Post,
-  larger-reads.Asked,
-  larger-reads.Learnt,
-  capped-reads.Asked,
-  capped-reads.Learnt,
-  piece-end-reads.Asked,
-  piece-end-reads.Learnt,
-) (pattern-at t) pattern.Post
+pattern-enum-told-4 : (t : ℕ) → pattern-lts.Need-enum-told-4 (pattern-calls t) (pattern-at t) pattern.Post
 pattern-enum-told-4 t c = search needs
 
--- src/reader.rt:52:24
-pattern-enum-told-5 : (t : ℕ) → pattern-lts.Need-enum-told-5 (
-  mark-of-reads.Asked,
-  mark-of-reads.Learnt,
-  list-below t,
-  list.Post,
-  pattern-below t,
-  pattern.Post,
-  larger-reads.Asked,
-  larger-reads.Learnt,
-  capped-reads.Asked,
-  capped-reads.Learnt,
-  piece-end-reads.Asked,
-  piece-end-reads.Learnt,
-) (pattern-at t) pattern.Post
+pattern-enum-told-5 : (t : ℕ) → pattern-lts.Need-enum-told-5 (pattern-calls t) (pattern-at t) pattern.Post
 pattern-enum-told-5 t c = search needs
 
--- src/reader.rt:53:31
-pattern-enum-told-6 : (t : ℕ) → pattern-lts.Need-enum-told-6 (
-  mark-of-reads.Asked,
-  mark-of-reads.Learnt,
-  list-below t,
-  list.Post,
-  pattern-below t,
-  pattern.Post,
-  larger-reads.Asked,
-  larger-reads.Learnt,
-  capped-reads.Asked,
-  capped-reads.Learnt,
-  piece-end-reads.Asked,
-  piece-end-reads.Learnt,
-) (pattern-at t) pattern.Post
+pattern-enum-told-6 : (t : ℕ) → pattern-lts.Need-enum-told-6 (pattern-calls t) (pattern-at t) pattern.Post
 pattern-enum-told-6 t c = search needs
 
--- src/reader.rt:53:31
-pattern-piece-end-requires : (t : ℕ) → pattern-lts.Need-piece-end-requires (
-  mark-of-reads.Asked,
-  mark-of-reads.Learnt,
-  list-below t,
-  list.Post,
-  pattern-below t,
-  pattern.Post,
-  larger-reads.Asked,
-  larger-reads.Learnt,
-  capped-reads.Asked,
-  capped-reads.Learnt,
-  piece-end-reads.Asked,
-  piece-end-reads.Learnt,
-) (pattern-at t) pattern.Post
+pattern-piece-end-requires : (t : ℕ) → pattern-lts.Need-piece-end-requires (pattern-calls t) (pattern-at t) pattern.Post
 pattern-piece-end-requires t c κs = search needs
 
--- src/reader.rt:54:23
-pattern-enum-known-next-2 : (t : ℕ) → pattern-lts.Need-enum-known-next-2 (
-  mark-of-reads.Asked,
-  mark-of-reads.Learnt,
-  list-below t,
-  list.Post,
-  pattern-below t,
-  pattern.Post,
-  larger-reads.Asked,
-  larger-reads.Learnt,
-  capped-reads.Asked,
-  capped-reads.Learnt,
-  piece-end-reads.Asked,
-  piece-end-reads.Learnt,
-) (pattern-at t) pattern.Post
+pattern-enum-known-next-2 : (t : ℕ) → pattern-lts.Need-enum-known-next-2 (pattern-calls t) (pattern-at t) pattern.Post
 pattern-enum-known-next-2 t c = search needs
 
--- src/reader.rt:54:32
-pattern-pattern-requires-2 : (t : ℕ) → pattern-lts.Need-pattern-requires-2 (
-  mark-of-reads.Asked,
-  mark-of-reads.Learnt,
-  list-below t,
-  list.Post,
-  pattern-below t,
-  pattern.Post,
-  larger-reads.Asked,
-  larger-reads.Learnt,
-  capped-reads.Asked,
-  capped-reads.Learnt,
-  piece-end-reads.Asked,
-  piece-end-reads.Learnt,
-) (pattern-at t) pattern.Post
+pattern-pattern-requires-2 : (t : ℕ) → pattern-lts.Need-pattern-requires-2 (pattern-calls t) (pattern-at t) pattern.Post
 pattern-pattern-requires-2 t c κs = omega (arith, (rw (c .before .next2 .given .1) at (c .before .before .before .piece-end .ensures)) .ahead)
 
--- src/reader.rt:55:33
-pattern-enum-told-7 : (t : ℕ) → pattern-lts.Need-enum-told-7 (
-  mark-of-reads.Asked,
-  mark-of-reads.Learnt,
-  list-below t,
-  list.Post,
-  pattern-below t,
-  pattern.Post,
-  larger-reads.Asked,
-  larger-reads.Learnt,
-  capped-reads.Asked,
-  capped-reads.Learnt,
-  piece-end-reads.Asked,
-  piece-end-reads.Learnt,
-) (pattern-at t) pattern.Post
+pattern-enum-told-7 : (t : ℕ) → pattern-lts.Need-enum-told-7 (pattern-calls t) (pattern-at t) pattern.Post
 pattern-enum-told-7 t c = search needs
 
--- src/reader.rt:36:1
-pattern-returns-2 : (t : ℕ) → pattern-lts.Need-returns-2 (
-  mark-of-reads.Asked,
-  mark-of-reads.Learnt,
-  list-below t,
-  list.Post,
-  pattern-below t,
-  pattern.Post,
-  larger-reads.Asked,
-  larger-reads.Learnt,
-  capped-reads.Asked,
-  capped-reads.Learnt,
-  piece-end-reads.Asked,
-  piece-end-reads.Learnt,
-) (pattern-at t) pattern.Post
-pattern-returns-2 t c = 
+pattern-returns-2 : (t : ℕ) → pattern-lts.Need-returns-2 (pattern-calls t) (pattern-at t) pattern.Post
+pattern-returns-2 t c =
     let r = rw (c .before .before .before .before .before .before .before .next .given .1) at (c .before .before .before .before .before .before .before .before .before .list .ensures) in
     let q = rw (c .before .before .before .end .given .1) at (c .before .before .before .before .before .pattern .ensures) in
     let g = mul-pos (r .within .some) (q .within .some) in
@@ -682,111 +179,27 @@ pattern-returns-2 t c =
     (record { low = omega (arith, r .within, q .within); high = q .within .high; deep = omega (arith, r .within, q .within, c .before .larger .ensures); some = omega (arith, g, c .capped .ensures); small = omega (arith, c .capped .ensures) })
     (rw (c .capped .ensures, c .before .larger .ensures, ← (q .same)))
 
--- src/reader.rt:36:1
-pattern-returns-3 : (t : ℕ) → pattern-lts.Need-returns-3 (
-  mark-of-reads.Asked,
-  mark-of-reads.Learnt,
-  list-below t,
-  list.Post,
-  pattern-below t,
-  pattern.Post,
-  larger-reads.Asked,
-  larger-reads.Learnt,
-  capped-reads.Asked,
-  capped-reads.Learnt,
-  piece-end-reads.Asked,
-  piece-end-reads.Learnt,
-) (pattern-at t) pattern.Post
-pattern-returns-3 t c = 
+pattern-returns-3 : (t : ℕ) → pattern-lts.Need-returns-3 (pattern-calls t) (pattern-at t) pattern.Post
+pattern-returns-3 t c =
     let r = rw (c .before .before .before .before .next .given .1) at (c .before .before .before .before .before .before .list .ensures) in
     let q = rw (c .enum-told2 .given .1) at (c .before .before .pattern .ensures) in
     pattern-opens _ _ _ _ (c .before .before .before .before .before .before .before .before .before .before .before .if1 .left) (sym (c .before .before .before .before .before .before .before .enum-told .given .1) ∙ c .before .before .before .before .before .before .before .before .before .mark-of .ensures) _ _ r tt (rw (← (q .same)))
 
--- src/reader.rt:36:1
-pattern-returns-4 : (t : ℕ) → pattern-lts.Need-returns-4 (
-  mark-of-reads.Asked,
-  mark-of-reads.Learnt,
-  list-below t,
-  list.Post,
-  pattern-below t,
-  pattern.Post,
-  larger-reads.Asked,
-  larger-reads.Learnt,
-  capped-reads.Asked,
-  capped-reads.Learnt,
-  piece-end-reads.Asked,
-  piece-end-reads.Learnt,
-) (pattern-at t) pattern.Post
-pattern-returns-4 t c = 
+pattern-returns-4 : (t : ℕ) → pattern-lts.Need-returns-4 (pattern-calls t) (pattern-at t) pattern.Post
+pattern-returns-4 t c =
     let r = rw (c .enum-told3 .given .1) at (c .before .before .list .ensures) in
     pattern-opens _ _ _ _ (c .before .before .before .before .before .before .before .if1 .left) (sym (c .before .before .before .enum-told .given .1) ∙ c .before .before .before .before .before .mark-of .ensures) _ _ r tt refl
 
--- src/reader.rt:36:1
-pattern-returns-5 : (t : ℕ) → pattern-lts.Need-returns-5 (
-  mark-of-reads.Asked,
-  mark-of-reads.Learnt,
-  list-below t,
-  list.Post,
-  pattern-below t,
-  pattern.Post,
-  larger-reads.Asked,
-  larger-reads.Learnt,
-  capped-reads.Asked,
-  capped-reads.Learnt,
-  piece-end-reads.Asked,
-  piece-end-reads.Learnt,
-) (pattern-at t) pattern.Post
+pattern-returns-5 : (t : ℕ) → pattern-lts.Need-returns-5 (pattern-calls t) (pattern-at t) pattern.Post
 pattern-returns-5 t c = pattern-stops _ _ _ _ (c .before .before .before .before .if1 .left) (sym (c .enum-told4 .given .1) ∙ c .before .before .mark-of .ensures)
 
--- src/reader.rt:36:1
-pattern-returns-6 : (t : ℕ) → pattern-lts.Need-returns-6 (
-  mark-of-reads.Asked,
-  mark-of-reads.Learnt,
-  list-below t,
-  list.Post,
-  pattern-below t,
-  pattern.Post,
-  larger-reads.Asked,
-  larger-reads.Learnt,
-  capped-reads.Asked,
-  capped-reads.Learnt,
-  piece-end-reads.Asked,
-  piece-end-reads.Learnt,
-) (pattern-at t) pattern.Post
+pattern-returns-6 : (t : ℕ) → pattern-lts.Need-returns-6 (pattern-calls t) (pattern-at t) pattern.Post
 pattern-returns-6 t c = pattern-stray _ _ _ _ (c .before .before .before .before .if1 .left) (sym (c .enum-told5 .given .1) ∙ c .before .before .mark-of .ensures)
 
--- src/reader.rt:36:1
-pattern-returns-7 : (t : ℕ) → pattern-lts.Need-returns-7 (
-  mark-of-reads.Asked,
-  mark-of-reads.Learnt,
-  list-below t,
-  list.Post,
-  pattern-below t,
-  pattern.Post,
-  larger-reads.Asked,
-  larger-reads.Learnt,
-  capped-reads.Asked,
-  capped-reads.Learnt,
-  piece-end-reads.Asked,
-  piece-end-reads.Learnt,
-) (pattern-at t) pattern.Post
+pattern-returns-7 : (t : ℕ) → pattern-lts.Need-returns-7 (pattern-calls t) (pattern-at t) pattern.Post
 pattern-returns-7 t c = pattern-piece _ _ _ _ (c .before .before .before .before .before .before .before .before .before .if1 .left) (sym (c .before .before .before .before .before .enum-told6 .given .1) ∙ c .before .before .before .before .before .before .before .mark-of .ensures) _ _ (rw (c .before .before .next2 .given .1) at (c .before .before .before .before .piece-end .ensures)) (c .pattern2 .ensures)
 
--- src/reader.rt:36:1
-pattern-returns-8 : (t : ℕ) → pattern-lts.Need-returns-8 (
-  mark-of-reads.Asked,
-  mark-of-reads.Learnt,
-  list-below t,
-  list.Post,
-  pattern-below t,
-  pattern.Post,
-  larger-reads.Asked,
-  larger-reads.Learnt,
-  capped-reads.Asked,
-  capped-reads.Learnt,
-  piece-end-reads.Asked,
-  piece-end-reads.Learnt,
-) (pattern-at t) pattern.Post
+pattern-returns-8 : (t : ℕ) → pattern-lts.Need-returns-8 (pattern-calls t) (pattern-at t) pattern.Post
 pattern-returns-8 t c = pattern-bad _ _ _ _ (c .before .before .before .before .before .before .before .if1 .left) (sym (c .before .before .before .enum-told6 .given .1) ∙ c .before .before .before .before .before .mark-of .ensures) (rw (c .enum-told7 .given .1) at (c .before .before .piece-end .ensures))
 
 pub +list+pattern-spec : {M : Type 1} → statement M

@@ -1,0 +1,4 @@
+pub mod ZeroEnded
+pub mod Forms
+pub mod Passwords
+pub mod Told

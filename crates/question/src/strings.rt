@@ -1,0 +1,57 @@
+// Zero-ended strings, one after the other in one slice. Nothing is copied.
+ghost use Prim.Native.Nat.{_+_, _≤_};
+ghost use mathlib.Core.Path.{_≡_};
+ghost use mathlib.Core.List.{[]};
+ghost use lib.ListN.{length, drop, getD};
+ghost use Rattle.question.specs.Strings.{stringsIn, untilZero};
+
+// Where the string that begins at from ends: at its zero, or at the list's end.
+pub fn string_end(list: &[u8], from: usize) -> usize
+    ensures { λ r. ⌜ (r ≡ from + untilZero (drop from (now (list .entry)))) × (from ≤ r) × (from ≤ length (now (list .entry)) → r ≤ length (now (list .entry))) ⌝ }
+{
+    let mut i = from;
+    while i < list.len() {
+        if list[i] == 0 {
+            return i;
+        }
+        i += 1;
+    }
+    i
+}
+
+// How many strings the list has.
+pub fn string_count(list: &[u8]) -> usize
+    ensures { λ r. ⌜ r ≡ length (stringsIn (now (list .entry))) ⌝ }
+{
+    let mut from = 0;
+    let mut n: usize = 0;
+    while from < list.len() {
+        let end = string_end(list, from);
+        if end == list.len() {
+            return n;
+        }
+        from = end + 1;
+        n += 1;
+    }
+    n
+}
+
+// The i-th string of the list, from 0; an empty part where there is none.
+pub fn string_at(list: &[u8], i: usize) -> &[u8]
+    ensures { λ r. ⌜ now r ≡ getD (stringsIn (now (list .entry))) i [] ⌝ }
+{
+    let mut from = 0;
+    let mut n: usize = 0;
+    while from < list.len() {
+        let end = string_end(list, from);
+        if end == list.len() {
+            return &list[0..0];
+        }
+        if n == i {
+            return &list[from..end];
+        }
+        from = end + 1;
+        n += 1;
+    }
+    &list[0..0]
+}

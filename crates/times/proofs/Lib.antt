@@ -1,0 +1,5 @@
+pub mod Parted
+pub mod Clocks
+pub mod Days
+pub mod Items
+pub mod Rules
