@@ -10,14 +10,13 @@ use Rattle.question.specs.declared.Age.{Age}
 use Rattle.question.specs.declared.WeekMinute.{WeekMinute}
 use Rattle.question.specs.declared.LastAuthentication.{LastAuthentication}
 use Rattle.question.specs.declared.LastAuthentication.the-variants.{Never, Minutes as AgeMinutes}
-use Rattle.answer.specs.declared.Timeout.{Timeout}
-use Rattle.answer.specs.declared.Timeout.the-variants.{Unset as NoTimeout, Minutes}
-use Rattle.answer.specs.declared.ArgumentCount.the-variants.{Unset as NoCount}
+use Rattle.options.specs.declared.timeout.Timeout.the-variants.{Unset, Minutes}
+use Rattle.options.specs.declared.span.Span.the-variants.{Nothing}
 use Rattle.answer.specs.declared.Granted.{Granted}
 use Rattle.answer.specs.declared.Answer.{Answer}
 use Rattle.answer.specs.declared.Answer.the-variants.{Permit, Password, NoEntry, CutShort}
 use Rattle.answer.specs.Meaning.{Asked, Outcome, result}
-use Rattle.answer.specs.Answer.{toldOf}
+use Rattle.answer.specs.Answer.{toldOf, isDecision, decidingLine}
 use Rattle.answer.specs.Meaning.{strings, overlaid, grantedBy, step as answer-Meaning-step, verdict as answer-Meaning-verdict, answerOf}
 use Rattle.entry.specs.Entry.{fieldsFrom as entry-Entry-fieldsFrom, completed, entryOf, starred, pathFor, conditionsAccept}
 use Rattle.entry.specs.Piece.{noField, followed, expanded, pathOf, hasPair, pairOf, commandOf, fullPathOf, prefixed, unnegated, userMarks, timeMarks, otherOf, pieceOf}
@@ -25,34 +24,35 @@ use Rattle.entry.specs.Users.{userApplies, groupApplies, decidedBy, usersAccept
 use Rattle.entry.specs.Verdict.{verdictOn, verdictOf}
 use Rattle.fault.specs.Fault.{numberOf as fault-Fault-numberOf, readAll}
 use Rattle.line.specs.Fold.{run, outcome}
+use Rattle.line.specs.Joined.{markOf as line-Joined-markOf, modeAfter, joinMarks, modeJoined, needsIndent, startAt, given as line-Joined-given, after as line-Joined-after, lastMarks, bareAtEnd, marks, endState}
 use Rattle.line.specs.Kind.{kindOf}
-use Rattle.line.specs.Line.{lines, cutShort}
+use Rattle.line.specs.Line.{lines, endsAt, cutShort}
 use Rattle.line.specs.Refused.{accepted, refusedFrom, refusedByte}
-use Rattle.line.specs.Scan.{markOf as line-Scan-markOf, modeAfter, joinMarks, modeJoined, needsIndent, startAt, given as line-Scan-given, after as line-Scan-after, lastMarks, bareAtEnd, openQuote, marks, endState, fieldsFrom as line-Scan-fieldsFrom, verdict as line-Scan-verdict, scanned}
-use Rattle.options.specs.Arguments.{passes, argumentsFrom, argumentsPass}
+use Rattle.line.specs.Scan.{openQuote, fieldsFrom as line-Scan-fieldsFrom, verdict as line-Scan-verdict, scanned}
+use Rattle.options.specs.Arguments.{passes, argumentsFrom, argumentsPass, inForce, failuresFrom, failures, marked as options-Arguments-marked, joined as options-Arguments-joined}
 use Rattle.options.specs.Options.{noOptions, over, nargsAllow}
 use Rattle.options.specs.Read.{rangeOf as options-Read-rangeOf, nameOf, isId, idOf, authOf, timeoutOf, argumentOf, settingOf, optionOf, only, optionsOf, argumentsOf, hasShell, twice}
 use Rattle.pattern.specs.Alternative.{next as pattern-Alternative-next, partsAt, partsOf, goodPart, alternativeOf}
 use Rattle.pattern.specs.Match.{signOf, items, escapedItems, behindSet, tails, matchItems, matches, matchesSome}
 use Rattle.pattern.specs.Set.{bodyOf, behind, reach, ranges, members, goodSet, listed, inSet}
-use Rattle.pattern.specs.Tree.{depth, number, joined, expansions, fits, markOf as pattern-Tree-markOf, firstPiece, readPattern, readList, listOf, treeOf}
+use Rattle.pattern.specs.Tree.{depth, number, joined as pattern-Tree-joined, expansions, fits, markOf as pattern-Tree-markOf, firstPiece, readPattern, readList, patternOf, listOf, treeOf}
 use Rattle.question.specs.Password.{fresh, passwordNeeded}
 use Rattle.question.specs.Question.{commandByte, goodComponent, goodCommand, goodName, goodGroups, goodArgument, goodArguments, goodQuestion, questionOf}
-use Rattle.question.specs.Strings.{stringsOf}
+use Rattle.question.specs.Strings.{stringsOf, stringsIn, untilZero}
 use Rattle.reader.specs.Colon.{defineName, defineText, defineLine, globalLine, operatorOf, ifLine, colonWord}
 use Rattle.reader.specs.Read.{entryLine, fieldsRead, lineCause, lineRead}
 use Rattle.reader.specs.State.{start as reader-State-start, withDefinition, withSettings, withEntry}
-use Rattle.text.specs.Class.{blank, letter, digit, wordByte, nameByte, printable, visible}
-use Rattle.text.specs.Lists.{all as text-Lists-all, any as text-Lists-any, has, splitAt}
+use Rattle.text.specs.Class.{blank, letter, digit, wordByte, nameByte, printable, visible, classOf}
+use Rattle.text.specs.Lists.{all as text-Lists-all, any as text-Lists-any, count, firstFault, has, splitAt}
 use Rattle.text.specs.Number.{digits, numberOf as text-Number-numberOf}
 use Rattle.text.specs.Parts.{partAt}
-use Rattle.text.specs.Slice.{same, startsWith, headIs, findPair}
+use Rattle.text.specs.Slice.{same, startsWith, headIs, findPair, findByte}
 use Rattle.times.specs.Clock.{hourOf, minuteOf, clockOf}
 use Rattle.times.specs.Day.{dayNames, lowerOf, shortens, dayAmong, dayOf}
-use Rattle.times.specs.Item.{compared, rangeOf as times-Item-rangeOf, spanOf, itemOf, onDay, inSpan, itemMatches}
-use Rattle.times.specs.Rule.{rightmost, timesAccept}
+use Rattle.times.specs.Item.{compared, rangeOf as times-Item-rangeOf, spanOf, itemOf, onDay, inSpan, itemMatches, itemAnswer}
+use Rattle.times.specs.Rule.{rightmost, timesAccept, marked as times-Rule-marked, unmarked, markedAll}
 use Rattle.variables.specs.Scope.{lookup, define, tooMany, nameStart, isName, builtIn, textOf}
-use Rattle.variables.specs.Substitute.{byteOf, word as variables-Substitute-word, named, closed, reference, substituted, fieldText}
+use Rattle.variables.specs.Substitute.{quotingAfter, stays, refers, word as variables-Substitute-word, known, closed, reference, pieces, joined as variables-Substitute-joined, joinedUpToBad, substituted, fieldText}
 
 table : List ℕ
 table =
@@ -92,7 +92,7 @@ clock age = asks (bytes "setclock") (bytes "ann") (bytes "van2") 1049 age
 
 clockSet : ((g : Granted) → Answer) → Outcome
 unfolding filled buffer
-clockSet how = result (how record { line = 3; auth = true; timeout = Minutes (pos 15); nargs = NoCount; written = 19 }) (filled (bytes "/sbin/setclock"))
+clockSet how = result (how record { line = 3; auth = true; timeout = Minutes (pos 15); nargs = Nothing; written = 19 }) (filled (bytes "/sbin/setclock"))
 
 log : List ℕ → List ℕ → ℕ → Asked
 unfolding asks
@@ -100,7 +100,7 @@ log user host minute = asks (bytes "batlog") user host minute Never
 
 logged : Outcome
 unfolding filled buffer
-logged = result (Permit record { line = 4; auth = false; timeout = NoTimeout; nargs = NoCount; written = 16 }) (filled (bytes "/opt/batlog"))
+logged = result (Permit record { line = 4; auth = false; timeout = Unset; nargs = Nothing; written = 16 }) (filled (bytes "/opt/batlog"))
 
 whole : Asked → Outcome → Case
 unfolding table
@@ -137,5 +137,5 @@ unfolding table buffer
 given c = answerOf (take (c .cut) table) (c .asked) buffer
 
 pub worked : map given cases ≡ map (λ c. c .expected) cases
-unfolding table buffer asks ago filled nothing clock clockSet log logged whole cutAt cases given toldOf strings overlaid grantedBy answer-Meaning-step answer-Meaning-verdict answerOf entry-Entry-fieldsFrom completed entryOf starred pathFor conditionsAccept noField followed expanded pathOf hasPair pairOf commandOf fullPathOf prefixed unnegated userMarks timeMarks otherOf pieceOf userApplies groupApplies decidedBy usersAccept verdictOn verdictOf fault-Fault-numberOf readAll run outcome kindOf lines cutShort accepted refusedFrom refusedByte line-Scan-markOf modeAfter joinMarks modeJoined needsIndent startAt line-Scan-given line-Scan-after lastMarks bareAtEnd openQuote marks endState line-Scan-fieldsFrom line-Scan-verdict scanned passes argumentsFrom argumentsPass noOptions over nargsAllow options-Read-rangeOf nameOf isId idOf authOf timeoutOf argumentOf settingOf optionOf only optionsOf argumentsOf hasShell twice pattern-Alternative-next partsAt partsOf goodPart alternativeOf signOf items escapedItems behindSet tails matchItems matches matchesSome bodyOf behind reach ranges members goodSet listed inSet depth number joined expansions fits pattern-Tree-markOf firstPiece readPattern readList listOf treeOf fresh passwordNeeded commandByte goodComponent goodCommand goodName goodGroups goodArgument goodArguments goodQuestion questionOf stringsOf defineName defineText defineLine globalLine operatorOf ifLine colonWord entryLine fieldsRead lineCause lineRead reader-State-start withDefinition withSettings withEntry blank letter digit wordByte nameByte printable visible text-Lists-all text-Lists-any has splitAt digits text-Number-numberOf partAt same startsWith headIs findPair hourOf minuteOf clockOf dayNames lowerOf shortens dayAmong dayOf compared times-Item-rangeOf spanOf itemOf onDay inSpan itemMatches rightmost timesAccept lookup define tooMany nameStart isName builtIn textOf byteOf variables-Substitute-word named closed reference substituted fieldText
+unfolding table buffer asks ago filled nothing clock clockSet log logged whole cutAt cases given toldOf isDecision decidingLine strings overlaid grantedBy answer-Meaning-step answer-Meaning-verdict answerOf entry-Entry-fieldsFrom completed entryOf starred pathFor conditionsAccept noField followed expanded pathOf hasPair pairOf commandOf fullPathOf prefixed unnegated userMarks timeMarks otherOf pieceOf userApplies groupApplies decidedBy usersAccept verdictOn verdictOf fault-Fault-numberOf readAll run outcome line-Joined-markOf modeAfter joinMarks modeJoined needsIndent startAt line-Joined-given line-Joined-after lastMarks bareAtEnd marks endState kindOf lines endsAt cutShort accepted refusedFrom refusedByte openQuote line-Scan-fieldsFrom line-Scan-verdict scanned passes argumentsFrom argumentsPass inForce failuresFrom failures options-Arguments-marked options-Arguments-joined noOptions over nargsAllow options-Read-rangeOf nameOf isId idOf authOf timeoutOf argumentOf settingOf optionOf only optionsOf argumentsOf hasShell twice pattern-Alternative-next partsAt partsOf goodPart alternativeOf signOf items escapedItems behindSet tails matchItems matches matchesSome bodyOf behind reach ranges members goodSet listed inSet depth number pattern-Tree-joined expansions fits pattern-Tree-markOf firstPiece readPattern readList patternOf listOf treeOf fresh passwordNeeded commandByte goodComponent goodCommand goodName goodGroups goodArgument goodArguments goodQuestion questionOf stringsOf stringsIn untilZero defineName defineText defineLine globalLine operatorOf ifLine colonWord entryLine fieldsRead lineCause lineRead reader-State-start withDefinition withSettings withEntry blank letter digit wordByte nameByte printable visible classOf text-Lists-all text-Lists-any count firstFault has splitAt digits text-Number-numberOf partAt same startsWith headIs findPair findByte hourOf minuteOf clockOf dayNames lowerOf shortens dayAmong dayOf compared times-Item-rangeOf spanOf itemOf onDay inSpan itemMatches itemAnswer rightmost timesAccept times-Rule-marked unmarked markedAll lookup define tooMany nameStart isName builtIn textOf quotingAfter stays refers variables-Substitute-word known closed reference pieces variables-Substitute-joined joinedUpToBad substituted fieldText
 worked = refl

@@ -19,10 +19,10 @@ use Rattle.options.specs.Options.{Options, Range, authOr}
 use Rattle.entry.specs.Verdict.{Verdict as EntryVerdict, permit, password, stoppedByNargs, stoppedByArgument, stoppedByPath}
 use Rattle.reader.specs.State.{State, Decision, start}
 use Rattle.reader.specs.Read.{lineRead}
-use Rattle.answer.specs.declared.Timeout.{Timeout}
-use Rattle.answer.specs.declared.Timeout.the-variants.{Unset as NoTimeout, Minutes}
-use Rattle.answer.specs.declared.ArgumentCount.{ArgumentCount}
-use Rattle.answer.specs.declared.ArgumentCount.the-variants.{Unset as NoCount, Between}
+use Rattle.options.specs.declared.timeout.Timeout.{Timeout}
+use Rattle.options.specs.declared.timeout.Timeout.the-variants.{Unset, Minutes}
+use Rattle.options.specs.declared.span.Span.{Span}
+use Rattle.options.specs.declared.span.Span.the-variants.{Nothing, Between}
 use Rattle.answer.specs.declared.Granted.{Granted}
 use Rattle.answer.specs.declared.Answer.{Answer}
 use Rattle.answer.specs.declared.Answer.the-variants.{Permit, Password, NoEntry, StoppedByNargs, StoppedByArgument, StoppedByPath, MalformedQuestion, LongTable, RefusedByte, CutShort, RefusedLine, SmallBuffer}
@@ -60,11 +60,11 @@ unfoldable pub overlaid : List ℕ → List ℕ → List ℕ
 overlaid s b = s ++ drop (length s) b
 
 abbrev pub timeoutTold : Option ℤ → Timeout
-timeoutTold none = NoTimeout
+timeoutTold none = Unset
 timeoutTold (some t) = Minutes t
 
-abbrev pub countTold : Option Range → ArgumentCount
-countTold none = NoCount
+abbrev pub countTold : Option Range → Span
+countTold none = Nothing
 countTold (some r) = Between (r .low) (r .high)
 
 -- line, effective options, bytes written

@@ -1,17 +1,7 @@
 // The answer to a question from a table.
 use fault::Cause;
-
-// The timeout in force, in minutes.
-pub enum Timeout {
-    Unset,
-    Minutes(i32),
-}
-
-// How many arguments are allowed: from the first number to the second.
-pub enum ArgumentCount {
-    Unset,
-    Between(usize, usize),
-}
+use options::span::Span;
+use options::timeout::Timeout;
 
 // What is told beside a permit. The path and the four ids are in the buffer.
 pub struct Granted {
@@ -19,7 +9,8 @@ pub struct Granted {
     pub line: usize,
     pub auth: bool,
     pub timeout: Timeout,
-    pub nargs: ArgumentCount,
+    // How many arguments are allowed.
+    pub nargs: Span,
     // How many bytes of the buffer were written.
     pub written: usize,
 }

@@ -7,3 +7,4 @@ pub mod Counting
 pub mod Bounds
 pub mod Scanning
 pub mod Results
+pub mod Access

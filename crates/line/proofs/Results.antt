@@ -12,9 +12,10 @@ use Rattle.text.specs.Choice.{pick, both, either}
 use Rattle.text.specs.Lists.{null}
 use Rattle.text.specs.Class.{blank}
 use Rattle.text.specs.Buffer.{laid}
-use Rattle.text.proofs.Buffers.{laid-is}
+use Rattle.text.proofs.Buffers.{laid-is, laid-length}
 use Rattle.line.specs.declared.counts.Counts.{Counts}
 use Rattle.line.specs.declared.scan.FieldBounds.{FieldBounds}
+use Rattle.line.specs.declared.scan.LineFault.{LineFault}
 use Rattle.line.specs.declared.scan.LineFault.the-variants.{Long, Indent, Quote, Fields}
 use Rattle.line.specs.declared.scan.Outcome.{Outcome}
 use Rattle.line.specs.declared.scan.Outcome.the-variants.{Good, Fault}
@@ -109,3 +110,29 @@ module _ {line out₀ : List ℕ} {bs₀ : List FieldBounds} {out : List ℕ} {b
         answer = λ rest. rw (q, p) (answers (firstByte line) (endState (startAt (firstByte line)) line) ms (λ m. map (partOf (keptOf ms ++ rest)) (take m (filled bs₀ noCounts (ms ++ Between ∷ [])))) (λ d. tells rest ms bs₀ l d));
         few = rw q (outcome-few (firstByte line) (endState (startAt (firstByte line)) line) (length ms) (length (fieldsFrom [] ms)));
       }
+
+-- ---- what a caller reads, in a buffer that has room for every joined line
+fits : (first : ℕ) (st : State) (ms : List Mark) (fs : List (List ℕ)) → verdict first st ms ≡ fields fs → length ms ≤ 4096
+unfolding verdict
+fits first st ms fs e = by (ltb 4096 (length ms)) refl _ e
+  where
+    by : (c : Bool) → ltb 4096 (length ms) ≡ c → (x : Scanned) → pick c (fault Long) x ≡ fields fs → length ms ≤ 4096
+    by true f x g = let z : _≡_ {A = ℕ} 0 1 = cc in absurd (omega arith)
+    by false f x g = ltb-false 4096 (length ms) f
+
+module _ {line old new : List ℕ} {r : ScannedLine} (w : Scans line old new r) where
+  pub scans-length : length new ≡ length old
+  scans-length = ap length (w .text) ∙ laid-length old 0 (textOf line)
+
+  pub scans-fault : {f : LineFault} → r .outcome ≡ Fault f → scanned line ≡ fault f
+  scans-fault e = sym (w .answer []) ∙ rw e
+
+  pub scans-good : {n : ℕ} → r .outcome ≡ Good n → 4096 ≤ length old → scanned line ≡ fields (fieldsOf new r)
+  unfolding scanned textOf
+  scans-good {n} e h =
+      let ms = marks (startAt (firstByte line)) line in
+      let g : scanned line ≡ fields (fieldsOf (textOf line ++ []) r) = sym (w .answer []) ∙ rw e in
+      let l = fits (firstByte line) (endState (startAt (firstByte line)) line) ms (fieldsOf (textOf line ++ []) r) g in
+      let k : 0 + length (textOf line) ≤ length old = omega (arith, kept-few ms) in
+      let s : new ≡ textOf line ++ drop (0 + length (textOf line)) old = w .text ∙ laid-is old 0 (textOf line) k in
+      rw s (sym (w .answer (drop (0 + length (textOf line)) old)) ∙ rw e)

@@ -30,8 +30,15 @@ pub record Options : Type 0 where
   pub timeout : Option ℤ
   pub nargs : Option Range
 
+-- a set that has ids only, and one that has none of them
+abbrev pub idsOnly : (uid euid gid egid : Option (List ℕ)) → Options
+idsOnly u e g h = record { uid = u; euid = e; gid = g; egid = h; auth = none; timeout = none; nargs = none }
+
+abbrev pub noIds : Option Bool → Option ℤ → Option Range → Options
+noIds a t n = record { uid = none; euid = none; gid = none; egid = none; auth = a; timeout = t; nargs = n }
+
 unfoldable pub noOptions : Options
-noOptions = record { uid = none; euid = none; gid = none; egid = none; auth = none; timeout = none; nargs = none }
+noOptions = noIds none none none
 
 -- local overrides global: what the first set has, else what the second has
 unfoldable pub over : Options → Options → Options
@@ -44,6 +51,11 @@ over a b = record {
   timeout = firstOf (a .timeout) (b .timeout);
   nargs = firstOf (a .nargs) (b .nargs);
 }
+
+-- "an option that is not set gives an empty string"
+abbrev pub idOr : Option (List ℕ) → List ℕ
+idOr none = []
+idOr (some v) = v
 
 -- unset auth is n
 abbrev pub authOr : Option Bool → Bool

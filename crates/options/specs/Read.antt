@@ -18,11 +18,11 @@ use Rattle.text.specs.declared.number.Number.the-variants.{Value, Malformed}
 use Rattle.fault.specs.Fault.{Reading, fault, value, unless, needed}
 use Rattle.fault.specs.declared.Cause.the-variants.{Pattern, PatternSize, IdLength, OptionValue, PatternKind}
 use Rattle.pattern.specs.declared.Kind.the-variants.{Plain}
-use Rattle.pattern.specs.Tree.{treeOf, fits, expansions}
+use Rattle.pattern.specs.Tree.{treeOf, fits}
 use Rattle.options.specs.declared.Id.{Id}
 use Rattle.options.specs.declared.Id.the-variants.{Uid, Euid, Gid, Egid}
-use Rattle.options.specs.Options.{Range, range, Options, noOptions, over}
-use Rattle.options.specs.Arguments.{ArgumentPattern}
+use Rattle.options.specs.Options.{Range, range, Options, idsOnly, noIds, noOptions, over}
+use Rattle.options.specs.Arguments.{ArgumentPattern, patternAt}
 
 -- a number, or two with `-` between them, from least to most, the first not above the second
 abbrev pub span : ℕ → ℕ → Number → Number → Option Range
@@ -93,15 +93,22 @@ timeoutOf (b ∷ s) = pick (eqb b 45) (bounded (λ n. negℤ (pos n)) 32768 (num
 
 -- a pattern is well formed, then not too large
 unfoldable pub argumentOf : Range → List ℕ → Reading Setting
-argumentOf r v = needed Pattern (treeOf Plain v) (λ t. unless (not (fits t)) PatternSize (value (setArgument (record { positions = r; expansions = expansions t }))))
+argumentOf r v = needed Pattern (treeOf Plain v) (λ t. unless (not (fits t)) PatternSize (value (setArgument (patternAt r v))))
+
+abbrev pub nargsOf : List ℕ → Reading Setting
+nargsOf v = needed OptionValue (rangeOf 0 64 v) (λ r. value (setNargs r))
+
+-- any value but `shell`, an empty one too, is another kind
+abbrev pub kindOf : List ℕ → Reading Setting
+kindOf v = pick (same v (bytes "shell")) (value setShell) (fault PatternKind)
 
 -- the value behind `=`
 unfoldable pub settingOf : Name → List ℕ → Reading Setting
 settingOf (idName i) v = idOf i v
 settingOf auth v = authOf v
 settingOf timeout v = timeoutOf v
-settingOf nargs v = needed OptionValue (rangeOf 0 64 v) (λ r. value (setNargs r))
-settingOf patterns v = pick (same v (bytes "shell")) (value setShell) (fault PatternKind)
+settingOf nargs v = nargsOf v
+settingOf patterns v = kindOf v
 settingOf (argument r) v = argumentOf r v
 
 -- the name of an option that stands before the first `=`
@@ -119,13 +126,13 @@ optionOf global t = namedPart global (partAt 61 t)
 
 -- a set with one setting
 unfoldable pub only : Setting → Options
-only (setId Uid v) = record { uid = some v; euid = none; gid = none; egid = none; auth = none; timeout = none; nargs = none }
-only (setId Euid v) = record { uid = none; euid = some v; gid = none; egid = none; auth = none; timeout = none; nargs = none }
-only (setId Gid v) = record { uid = none; euid = none; gid = some v; egid = none; auth = none; timeout = none; nargs = none }
-only (setId Egid v) = record { uid = none; euid = none; gid = none; egid = some v; auth = none; timeout = none; nargs = none }
-only (setAuth v) = record { uid = none; euid = none; gid = none; egid = none; auth = some v; timeout = none; nargs = none }
-only (setTimeout v) = record { uid = none; euid = none; gid = none; egid = none; auth = none; timeout = some v; nargs = none }
-only (setNargs v) = record { uid = none; euid = none; gid = none; egid = none; auth = none; timeout = none; nargs = some v }
+only (setId Uid v) = idsOnly (some v) none none none
+only (setId Euid v) = idsOnly none (some v) none none
+only (setId Gid v) = idsOnly none none (some v) none
+only (setId Egid v) = idsOnly none none none (some v)
+only (setAuth b) = noIds (some b) none none
+only (setTimeout t) = noIds none (some t) none
+only (setNargs r) = noIds none none (some r)
 only (setArgument p) = noOptions
 only setShell = noOptions
 

@@ -1,4 +1,15 @@
 // Options: one from a field's text, a set of them laid over another, and what they allow.
+ghost use mathlib.Core.Path.{_≡_};
+ghost use Rattle.text.specs.Choice.{either};
+
+pub mod arguments; // which arguments fail an argument pattern
+pub mod ids; // user and group names in options
+pub mod line; // the options of one line, as its fields are read
+pub mod name; // the names of options
+pub mod read; // one option from a field's text
+pub mod set; // the options that hold one setting, and one set of them laid over another
+pub mod span; // ranges of numbers
+pub mod timeout; // the value of a timeout
 
 // The options that name a user or a group.
 pub enum Id {
@@ -6,4 +17,10 @@ pub enum Id {
     Euid,
     Gid,
     Egid,
+}
+
+fn or(a: bool, b: bool) -> bool
+    ensures { λ r. ⌜ r ≡ either a b ⌝ }
+{
+    if a { true } else { b }
 }

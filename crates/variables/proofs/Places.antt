@@ -1,31 +1,29 @@
 -- The steps of reading a field: a piece put, a name's place, a name's text. Assumes nothing.
-use Prim.Native.Nat.{ℕ, zero, suc, _+_, _-_, _≤_, _<_, min}
 use mathlib.Core.Path.{_≡_, refl, sym, ap, _∙_}
 use mathlib.Core.Bool.{Bool, true, false}
-use mathlib.Core.List.{List, [], _∷_, _++_}
+use mathlib.Core.List.{List, [], _∷_}
 use mathlib.Core.Option.{Option, none, some}
+use Prim.Native.Nat.{ℕ, _+_, _-_, _≤_, _<_, min}
 use native.Mathlib.Omega.{arith}
-use native.Mathlib.Nat.{add-zero}
 use borrow.Author.Tests.{eq-eqb, ne-eqb}
 use lib.Dec.{eqb}
-use lib.ListN.{length, take, drop, getD, drop-of-length-le, length-drop}
+use lib.ListN.{length, take, drop, getD, drop-of-length-le}
 use Rattle.text.specs.Choice.{pick}
 use Rattle.text.specs.Bytes.{bytes}
 use Rattle.text.specs.Class.{wordByte}
 use Rattle.text.specs.Slice.{same, headIs}
-use Rattle.text.specs.Buffer.{laid, upTo, Wrote}
+use Rattle.text.specs.Buffer.{laid, Wrote}
 use Rattle.text.specs.declared.buffer.Filled.{Filled}
 use Rattle.text.specs.declared.buffer.Filled.the-variants.{Done, Full}
 use Rattle.text.proofs.Laws.{next}
 use Rattle.text.proofs.Buffers.{wrote-done, up-full}
 use Rattle.variables.specs.declared.field.Quoting.{Quoting}
-use Rattle.variables.specs.declared.field.Place.{Place}
 use Rattle.variables.specs.declared.field.Place.the-variants.{Name, Missing}
 use Rattle.variables.specs.declared.field.Named.{Named}
 use Rattle.variables.specs.declared.field.Named.the-variants.{Put, Unknown}
 use Rattle.variables.specs.Scope.{Scope, lookup, textOf, isName}
-use Rattle.variables.specs.Substitute.{stays, word, known, closed, reference, sized}
-use Rattle.variables.specs.Steps.{Puts, Places, referenceAt}
+use Rattle.variables.specs.Substitute.{stays, word, known, closed, reference}
+use Rattle.variables.specs.Steps.{Puts, Places}
 use Rattle.variables.specs.declared.Text.{Text}
 use Rattle.variables.specs.State.{textFound}
 use Rattle.variables.proofs.State.{take-min}

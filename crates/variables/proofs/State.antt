@@ -1,16 +1,15 @@
 -- The place of a name, and what `define` does with the array. Assumes nothing.
-use Prim.Native.Nat.{ℕ, zero, suc, _+_, _-_, _≤_, _<_, min}
 use mathlib.Core.Path.{_≡_, refl, sym, ap, _∙_}
 use mathlib.Core.Bool.{Bool, true, false}
 use mathlib.Core.List.{List, [], _∷_, _++_, map}
 use mathlib.Core.Option.{Option, none, some}
+use Prim.Native.Nat.{ℕ, zero, suc, _+_, _-_, _≤_, _<_, min}
 use native.Mathlib.Omega.{arith}
 use native.Mathlib.Numerals.{add-one}
 use native.Mathlib.Decide.{decLe}
 use borrow.Author.Tests.{lt-ltb, le-ltb}
-use lib.ListN.{length, set, take, drop, getD, drop-of-length-le, length-take, length-map, length-set, length-replicate, replicate, length-append, List·getD-map}
+use lib.ListN.{length, set, take, drop, getD, drop-of-length-le, length-take, length-map, length-set, length-replicate, replicate, length-append}
 use lib.Seq.{take-set-lt, take-suc-set, take-all, getD-take}
-use lib.Dec.{ltb}
 use Rattle.text.specs.Choice.{pick}
 use Rattle.text.specs.Slice.{same}
 use Rattle.text.specs.Buffer.{laid}
@@ -28,6 +27,7 @@ take-min n m l h = elim (decLe n m) [ yes g ↦ small (omega arith) | no g ↦ l
   where
     small : min n m ≡ n → take (min n m) l ≡ take n l
     small e = rw e
+
     large : min n m ≡ m → length l ≤ n → take (min n m) l ≡ take n l
     large e g = rw (e, take-all m l h, take-all n l g)
 
@@ -45,7 +45,7 @@ module _ (vars : List Variable) (d : Variable) (n : ℕ) (name : List ℕ) (i : 
     at-place : placeOf i name (map definitionOf (drop i (take n vars))) ≡ pick (same (definitionOf (getD vars i d) .name) name) (At i) (placeOf (i + 1) name (map definitionOf (drop (i + 1) (take n vars))))
     unfolding placeOf
     at-place = let f : length (take n vars) ≡ n = length-take n vars ∙ omega arith in let g : i < length (take n vars) = omega arith in
-      rw (next-of d (take n vars) i g, getD-take n vars i d h)
+        rw (next-of d (take n vars) i g, getD-take n vars i d h)
 
     pub found-here : {r : Bool} → r ≡ same (definitionOf (getD vars i d) .name) name → r ≡ true → placeOf i name (map definitionOf (drop i (take n vars))) ≡ At i
     found-here e t = at-place ∙ rw (sym e ∙ t)
@@ -57,42 +57,61 @@ module _ (vars : List Variable) (d : Variable) (n : ℕ) (name : List ℕ) (i : 
   unfolding placeOf
   found-end h = let f : length (take n vars) ≡ n = length-take n vars ∙ omega arith in let g : length (take n vars) ≤ i = omega arith in rw (drop-of-length-le (take n vars) g)
 
+-- the same of what is looked up
+module _ (vars : List Variable) (d : Variable) (n : ℕ) (name : List ℕ) (i : ℕ) (m : n ≤ length vars) where
+  module _ (h : i < n) where
+    look-at : lookup name (map definitionOf (drop i (take n vars))) ≡ pick (same (definitionOf (getD vars i d) .name) name) (some (definitionOf (getD vars i d) .text)) (lookup name (map definitionOf (drop (i + 1) (take n vars))))
+    unfolding lookup
+    look-at = let f : length (take n vars) ≡ n = length-take n vars ∙ omega arith in let g : i < length (take n vars) = omega arith in
+        rw (next-of d (take n vars) i g, getD-take n vars i d h)
+
+    pub look-here : {r : Bool} → r ≡ same (definitionOf (getD vars i d) .name) name → r ≡ true → lookup name (map definitionOf (drop i (take n vars))) ≡ some (definitionOf (getD vars i d) .text)
+    look-here e t = look-at ∙ rw (sym e ∙ t)
+
+    pub look-on : {r : Bool} → r ≡ same (definitionOf (getD vars i d) .name) name → r ≡ false → lookup name (map definitionOf (drop i (take n vars))) ≡ lookup name (map definitionOf (drop (i + 1) (take n vars)))
+    look-on e t = look-at ∙ rw (sym e ∙ t)
+
+  pub look-end : n ≤ i → lookup name (map definitionOf (drop i (take n vars))) ≡ none
+  unfolding lookup
+  look-end h = let f : length (take n vars) ≡ n = length-take n vars ∙ omega arith in let g : length (take n vars) ≤ i = omega arith in rw (drop-of-length-le (take n vars) g)
+
+pub look-clamped : (k n : ℕ) (vars : List Variable) (name : List ℕ) {v : Option (List ℕ)} → length vars ≡ 64 → n ≡ min k 64 → lookup name (map definitionOf (take n vars)) ≡ v → v ≡ lookup name (map definitionOf (take k vars))
+look-clamped k n vars name l e h = let g : length vars ≤ 64 = omega arith in sym h ∙ rw (e, take-min k 64 vars g)
+
 pub found-clamped : (k n : ℕ) (vars : List Variable) (name : List ℕ) {v : Found} → length vars ≡ 64 → n ≡ min k 64 → placeOf 0 name (map definitionOf (take n vars)) ≡ v → v ≡ placeOf 0 name (map definitionOf (take k vars))
 found-clamped k n vars name l e h = let g : length vars ≤ 64 = omega arith in sym h ∙ rw (e, take-min k 64 vars g)
 
--- a name that stands at a place: to define it is to set it there, and its text is what stands there
-pub record There (i j : ℕ) (d z : Definition) (ds : List Definition) : Type 0 where
+-- a name that stands at a place: to define it is to set it there
+pub record There (i j : ℕ) (d : Definition) (ds : List Definition) : Type 0 where
   pub low : i ≤ j
   pub high : j < i + length ds
   pub defines : define d ds ≡ set ds (j - i) d
-  pub looks : lookup (d .name) ds ≡ some (getD ds (j - i) z .text)
 
 -- by what the first comparison says
-there-one : (i j : ℕ) (d z e : Definition) (ds : List Definition) (b : Bool) → same (e .name) (d .name) ≡ b → pick b (At i) (placeOf (i + 1) (d .name) ds) ≡ At j → (placeOf (i + 1) (d .name) ds ≡ At j → There (i + 1) j d z ds) → There i j d z (e ∷ ds)
-unfolding define lookup
-there-one i j d z e ds true f p rec = let k : i ≡ j = cc in let y : j - i ≡ 0 = omega arith in
-    record { low = omega arith; high = omega arith; defines = rw (f, y); looks = rw (f, y) }
-there-one i j d z e ds false f p rec = let r = rec p in let y : j - i ≡ suc (j - (i + 1)) = omega (arith, r .low) in
-    record { low = omega (arith, r .low); high = omega (arith, r .high); defines = rw (f, y) (ap (λ x. e ∷ x) (r .defines)); looks = rw (f, y) (r .looks) }
+there-one : (i j : ℕ) (d e : Definition) (ds : List Definition) (b : Bool) → same (e .name) (d .name) ≡ b → pick b (At i) (placeOf (i + 1) (d .name) ds) ≡ At j → (placeOf (i + 1) (d .name) ds ≡ At j → There (i + 1) j d ds) → There i j d (e ∷ ds)
+unfolding define
+there-one i j d e ds true f p rec = let k : i ≡ j = cc in let y : j - i ≡ 0 = omega arith in
+    record { low = omega arith; high = omega arith; defines = rw (f, y) }
+there-one i j d e ds false f p rec = let r = rec p in let y : j - i ≡ suc (j - (i + 1)) = omega (arith, r .low) in
+    record { low = omega (arith, r .low); high = omega (arith, r .high); defines = rw (f, y) (ap (λ x. e ∷ x) (r .defines)) }
 
-pub there : (i j : ℕ) (d z : Definition) (ds : List Definition) → placeOf i (d .name) ds ≡ At j → There i j d z ds
+pub there : (i j : ℕ) (d : Definition) (ds : List Definition) → placeOf i (d .name) ds ≡ At j → There i j d ds
 unfolding placeOf
-there i j d z [] p = let k : _≡_ {A = ℕ} 0 1 = cc in absurd (omega arith)
-there i j d z (e ∷ ds) p = there-one i j d z e ds (same (e .name) (d .name)) refl p (λ q. there (i + 1) j d z ds q)
+there i j d [] p = let k : _≡_ {A = ℕ} 0 1 = cc in absurd (omega arith)
+there i j d (e ∷ ds) p = there-one i j d e ds (same (e .name) (d .name)) refl p (λ q. there (i + 1) j d ds q)
 
 -- a name that stands nowhere: to define it is to put it behind the others
 pub record Nowhere (d : Definition) (ds : List Definition) : Type 0 where
   pub defines : define d ds ≡ ds ++ d ∷ []
-  pub looks : lookup (d .name) ds ≡ none
 
 nowhere-one : (i : ℕ) (d e : Definition) (ds : List Definition) (b : Bool) → same (e .name) (d .name) ≡ b → pick b (At i) (placeOf (i + 1) (d .name) ds) ≡ Nothing → (placeOf (i + 1) (d .name) ds ≡ Nothing → Nowhere d ds) → Nowhere d (e ∷ ds)
-unfolding define lookup
+unfolding define
 nowhere-one i d e ds true f p rec = let z : _≡_ {A = ℕ} 0 1 = cc in absurd (omega arith)
-nowhere-one i d e ds false f p rec = let r = rec p in record { defines = rw f (ap (λ x. e ∷ x) (r .defines)); looks = rw f (r .looks) }
+nowhere-one i d e ds false f p rec = let r = rec p in record { defines = rw f (ap (λ x. e ∷ x) (r .defines)) }
 
 pub nowhere : (i : ℕ) (d : Definition) (ds : List Definition) → placeOf i (d .name) ds ≡ Nothing → Nowhere d ds
-unfolding placeOf define lookup
-nowhere i d [] p = record { defines = refl; looks = refl }
+unfolding placeOf define
+nowhere i d [] p = record { defines = refl }
 nowhere i d (e ∷ ds) p = nowhere-one i d e ds (same (e .name) (d .name)) refl p (λ q. nowhere (i + 1) d ds q)
 
 map-set {ℓ ℓ′} : {A : Type ℓ} {B : Type ℓ′} (f : A → B) (l : List A) (i : ℕ) (a : A) → map f (set l i a) ≡ set (map f l) i (f a)
@@ -110,16 +129,7 @@ many vars n l = length-map (take n vars) definitionOf ∙ length-take n vars ∙
 
 module _ (vars : List Variable) (n : ℕ) (name : List ℕ) (l : length vars ≡ 64) where
   pub in-range : (i : ℕ) → At i ≡ placeOf 0 name (map definitionOf (take n vars)) → i < 64
-  in-range i h = let t = there 0 i (definition name []) (definition [] []) (map definitionOf (take n vars)) (sym h) in omega (arith, t .high, many vars n l)
-
-  pub looked-up : (d : Variable) (i : ℕ) → At i ≡ placeOf 0 name (map definitionOf (take n vars)) → some (take (getD vars i d .bytes) (getD vars i d .text)) ≡ lookup name (map definitionOf (take n vars))
-  looked-up d i h =
-      let t = there 0 i (definition name []) (definitionOf d) (map definitionOf (take n vars)) (sym h) in
-      let g : i < n = omega (arith, t .high, many vars n l) in let z : i - 0 ≡ i = omega arith in
-      sym (t .looks ∙ rw (z, List·getD-map definitionOf (take n vars) i d, getD-take n vars i d g))
-
-  pub not-known : Nothing ≡ placeOf 0 name (map definitionOf (take n vars)) → none ≡ lookup name (map definitionOf (take n vars))
-  not-known h = sym (nowhere 0 (definition name []) (map definitionOf (take n vars)) (sym h) .looks)
+  in-range i h = let t = there 0 i (definition name []) (map definitionOf (take n vars)) (sym h) in omega (arith, t .high, many vars n l)
 
 -- a refused size
 pub long-name : (d : Definition) (ds : List Definition) → 64 < length (d .name) → Defines ds d LongName ds
@@ -148,7 +158,7 @@ module _ (vars : List Variable) (n : ℕ) (name text a b : List ℕ) (l : length
   pub placed : (i : ℕ) → At i ≡ placeOf 0 name (map definitionOf (take n vars)) → Defines (map definitionOf (take n vars)) (definition name text) Stored (map definitionOf (take n (set vars i (made name text a b))))
   unfolding outcomeOf tooMany
   placed i h =
-      let t = there 0 i (definition name text) (definition [] []) (map definitionOf (take n vars)) (sym h) in
+      let t = there 0 i (definition name text) (map definitionOf (take n vars)) (sym h) in
       let g : i < n = omega (arith, t .high, many vars n l) in let z : i - 0 ≡ i = omega arith in
       let m : length (define (definition name text) (map definitionOf (take n vars))) ≤ 64 = rw (t .defines, length-set) (omega (arith, many vars n l)) in
       record {

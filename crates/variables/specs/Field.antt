@@ -1,7 +1,7 @@
 -- What reading a field answers, and what it leaves in the lent buffer.
-use Prim.Native.Nat.{ℕ, _≤_}
 use mathlib.Core.Path.{_≡_}
 use mathlib.Core.List.{List}
+use Prim.Native.Nat.{ℕ, _≤_}
 use lib.ListN.{take}
 use Rattle.text.specs.Buffer.{laid}
 use Rattle.fault.specs.Fault.{Reading, fault, value}

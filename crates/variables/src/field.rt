@@ -1,5 +1,7 @@
 // A field as written to its text: quotes removed, `$NAME` and `$(NAME)` replaced.
-use super::{Variable, Variables, at_most};
+use super::Variable;
+use super::Variables;
+use super::at_most;
 use super::name::is_name;
 use text::buffer::Filled;
 ghost use mathlib.Core.Path.{_≡_};
@@ -67,8 +69,20 @@ fn quoting_after(quoting: Quoting, b: u8) -> Quoting
                 Quoting::Outside
             }
         }
-        Quoting::Single => { if b == 39 { Quoting::Outside } else { Quoting::Single } }
-        Quoting::Double => { if b == 34 { Quoting::Outside } else { Quoting::Double } }
+        Quoting::Single => {
+            if b == 39 {
+                Quoting::Outside
+            } else {
+                Quoting::Single
+            }
+        }
+        Quoting::Double => {
+            if b == 34 {
+                Quoting::Outside
+            } else {
+                Quoting::Double
+            }
+        }
     }
 }
 
@@ -198,7 +212,14 @@ fn put_defined(vars: Variables, name: &[u8], out: &mut [u8], n: usize) -> Named
 }
 
 // The text of a name behind the first n bytes.
-fn put_named(vars: Variables, caller: &[u8], host: &[u8], name: &[u8], out: &mut [u8], n: usize) -> Named
+fn put_named(
+    vars: Variables,
+    caller: &[u8],
+    host: &[u8],
+    name: &[u8],
+    out: &mut [u8],
+    n: usize,
+) -> Named
     requires { ⌜ length (now out) ≡ 1024 ⌝ }
     ensures { λ r. ⌜ Puts (known (scopeOf (now (caller .entry)) (now (host .entry)) vars) (now (name .entry))) n (now (out .entry)) (now (out .exit)) r ⌝ }
 {
@@ -218,7 +239,14 @@ fn put_named(vars: Variables, caller: &[u8], host: &[u8], name: &[u8], out: &mut
 }
 
 // The text of the reference that the bytes behind a `$` begin with, behind the first n bytes.
-fn put_reference(vars: Variables, caller: &[u8], host: &[u8], rest: &[u8], out: &mut [u8], n: usize) -> Referred
+fn put_reference(
+    vars: Variables,
+    caller: &[u8],
+    host: &[u8],
+    rest: &[u8],
+    out: &mut [u8],
+    n: usize,
+) -> Referred
     requires { ⌜ length (now out) ≡ 1024 ⌝ }
     ensures { λ r. ⌜ Refers (scopeOf (now (caller .entry)) (now (host .entry)) vars) (now (rest .entry)) n (now (out .entry)) (now (out .exit)) r ⌝ }
 {
@@ -241,7 +269,8 @@ fn put_field(vars: Variables, caller: &[u8], host: &[u8], field: &[u8], out: &mu
     let mut quoting = first.quoting;
     let mut n = first.count;
     while at < field.len() {
-        let Referred::Known(size, m) = put_reference(vars, caller, host, &field[at + 1..], out, n) else {
+        let Referred::Known(size, m) = put_reference(vars, caller, host, &field[at + 1..], out, n)
+        else {
             return FieldText::BadVariable;
         };
         let run = text_run(field, at + 1 + size, quoting, out, m);
@@ -257,7 +286,13 @@ fn put_field(vars: Variables, caller: &[u8], host: &[u8], field: &[u8], out: &mu
 }
 
 // The text of a field at the beginning of the lent buffer; what stands behind it stays.
-pub fn field_text(vars: Variables, caller: &[u8], host: &[u8], field: &[u8], out: &mut [u8; 1024]) -> FieldText
+pub fn field_text(
+    vars: Variables,
+    caller: &[u8],
+    host: &[u8],
+    field: &[u8],
+    out: &mut [u8; 1024],
+) -> FieldText
     ensures { λ r. ⌜ Substitutes (scopeOf (now (caller .entry)) (now (host .entry)) vars) (now (field .entry)) (now (out .entry)) (now (out .exit)) r ⌝ }
 {
     put_field(vars, caller, host, field, out)

@@ -1,6 +1,7 @@
 // The variables of `:define` by value, and a field's text.
 pub mod field; // a field as written to its text
 pub mod name; // the form of a name, and the names that are built in
+
 ghost use mathlib.Core.Path.{_≡_};
 ghost use mathlib.Core.List.{[]};
 ghost use Prim.Native.Nat.{min};
@@ -22,6 +23,7 @@ pub struct Variable {
 impl Variable {
     // Bytes of a name, and of a text.
     pub const NAME: usize = 64;
+
     pub const TEXT: usize = 256;
 }
 
@@ -123,25 +125,30 @@ impl Variables {
         Found::Nothing
     }
 
-    // The text of a name from `:define`.
+    // The text of a name from `:define`. It looks for itself, since a call of `place` would copy the variables once more.
     pub fn lookup(self, name: &[u8]) -> Text
         ensures { λ r. ⌜ textFound r ≡ lookup (now (name .entry)) (definitionsOf self) ⌝ }
     {
-        match self.place(name) {
-            Found::At(i) => {
-                let v = self.vars[i];
-                let a = v.text;
-                Text {
-                    text: a,
+        let n = at_most(self.count, Variables::MOST);
+        let mut i = 0;
+        while i < n {
+            let v = self.vars[i];
+            let a = v.name;
+            let k = v.letters;
+            if same_name(a, k, name) {
+                let b = v.text;
+                return Text {
+                    text: b,
                     bytes: v.bytes,
                     known: true,
-                }
+                };
             }
-            Found::Nothing => Text {
-                text: [0u8; 256],
-                bytes: 0,
-                known: false,
-            },
+            i += 1;
+        }
+        Text {
+            text: [0u8; 256],
+            bytes: 0,
+            known: false,
         }
     }
 

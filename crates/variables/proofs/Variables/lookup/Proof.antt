@@ -1,44 +1,64 @@
-use Rattle.variables.proofs.State.{unmapped, in-range, looked-up, not-known}
-use lib.ListN.{length}
-use mathlib.Core.List.{[]}
-use mathlib.Core.Path.{_≡_, sym, _∙_}
+use mathlib.Core.Path.{_≡_, refl, sym, _∙_}
+use mathlib.Core.List.{[], map}
+use Prim.Native.Nat.{_-_, _≤_}
 use native.Mathlib.Omega.{arith}
 use borrow.Author.Needs.{needs}
+use lib.ListN.{length, drop, take}
+use Rattle.variables.proofs.State.{unmapped, look-here, look-on, look-end, look-clamped}
+use Rattle.variables.specs.State.{definitionOf}
+use Rattle.variables.specs.Scope.{lookup}
 use Rattle.variables.proofs.Variables.lookup.Statement.{statement}
 use Rattle.variables.proofs.Variables.lookup.Tie as tie
-use Rattle.variables.proofs.Variables.lookup.Reads as reads
-use Rattle.variables.proofs.Variables.lookup.Lts as lts
-use Rattle.variables.proofs.Variables.place.Reads as place-reads
 
--- src/lib.rt:130:15
-place-requires : tie.Need-place-requires
-place-requires c κs = search needs
+abbrev Inv-loop : tie.InvT-loop
+Inv-loop name self n i₀ i = (i ≤ n) × (lookup name (map definitionOf (drop i (take n (self .vars)))) ≡ lookup name (map definitionOf (take n (self .vars))))
 
--- src/lib.rt:131:23
-enum-known-i : tie.Need-enum-known-i
-enum-known-i c = search needs
+abbrev μ-loop : tie.MeasureT-loop
+μ-loop name self n i₀ i = n - i
 
--- src/lib.rt:132:25
-mul-v : tie.Need-mul-v
-mul-v c = let s = c .before .before .before .before .before .args .t1 in let l : length (s .vars) ≡ 64 = search (unmapped, needs) in let h = in-range (s .vars) (s .count) _ l _ (sym (c .before .i .given .1) ∙ c .before .before .before .place .ensures) in omega arith
+at-most-requires : tie.Need-at-most-requires Inv-loop μ-loop
+at-most-requires c κs = search needs
 
--- src/lib.rt:132:25
-element-copy-out-v : tie.Need-element-copy-out-v
-element-copy-out-v c = let s = c .before .before .before .before .before .args .t1 in let l : length (s .vars) ≡ 64 = search (unmapped, needs) in let h = in-range (s .vars) (s .count) _ l _ (sym (c .before .i .given .1) ∙ c .before .before .before .place .ensures) in omega arith
+loop-holds : tie.Need-loop-holds Inv-loop μ-loop
+loop-holds c = (omega arith, refl)
 
--- src/lib.rt:141:23
-enum-told : tie.Need-enum-told
-enum-told c = search needs
+mul-v : tie.Need-mul-v Inv-loop μ-loop
+mul-v c = search needs
 
--- src/lib.rt:127:5
-returns : tie.Need-returns
-returns c = let s = c .before .before .before .before .before .before .before .args .t1 in let l : length (s .vars) ≡ 64 = search (unmapped, needs) in looked-up (s .vars) (s .count) _ l (record { name = []; letters = 0; text = []; bytes = 0 }) _ (sym (c .before .before .before .i .given .1) ∙ c .before .before .before .before .before .place .ensures)
+element-copy-out-v : tie.Need-element-copy-out-v Inv-loop μ-loop
+element-copy-out-v c = search needs
 
--- src/lib.rt:127:5
-returns-2 : tie.Need-returns-2
-returns-2 c = let s = c .before .before .before .before .args .t1 in let l : length (s .vars) ≡ 64 = search (unmapped, needs) in not-known (s .vars) (s .count) _ l (sym (c .enum-told .given .1) ∙ c .before .before .place .ensures)
+same-name-requires : tie.Need-same-name-requires Inv-loop μ-loop
+same-name-requires c κs = search needs
+
+returns : tie.Need-returns Inv-loop μ-loop
+returns c = let s = c .before .before .before .before .before .before .before .before .before .args .t1 in let l : length (s .vars) ≡ 64 = search (unmapped, needs) in look-clamped _ _ _ _ l (c .before .before .before .before .before .before .before .at-most .ensures) (sym (c .before .before .before .before .before .before .loop .inv .1) ∙ look-here (s .vars) _ _ _ _ (omega arith) (c .before .before .before .before .before .loop-test .taken) (c .before .before .same-name .ensures) (c .before .if1 .taken))
+
+add-i : tie.Need-add-i Inv-loop μ-loop
+add-i c = search needs
+
+loop-less : tie.Need-loop-less Inv-loop μ-loop
+loop-less c = search needs
+
+loop-again : tie.Need-loop-again Inv-loop μ-loop
+loop-again c = let s = c .before .before .before .before .before .before .before .before .args .t1 in let l : length (s .vars) ≡ 64 = search (unmapped, needs) in (omega arith, sym (look-on (s .vars) _ _ _ _ (omega arith) (c .before .before .before .before .loop-test .taken) (c .before .same-name .ensures) (c .if1 .left)) ∙ c .before .before .before .before .before .loop .inv .1)
+
+returns-2 : tie.Need-returns-2 Inv-loop μ-loop
+returns-2 c = let s = c .before .before .before .before .args .t1 in let l : length (s .vars) ≡ 64 = search (unmapped, needs) in look-clamped _ _ _ _ l (c .before .before .at-most .ensures) (sym (c .before .loop .inv .1) ∙ look-end (s .vars) (record { name = []; letters = 0; text = []; bytes = 0 }) _ _ _ (omega arith) (c .loop-test .left))
 
 pub lookup-spec : {M : Type 1} → statement M
 lookup-spec =
     tie.close
-    (tie.spec place-requires enum-known-i mul-v element-copy-out-v enum-told returns returns-2)
+    (tie.spec
+    Inv-loop
+    μ-loop
+    at-most-requires
+    loop-holds
+    mul-v
+    element-copy-out-v
+    same-name-requires
+    returns
+    add-i
+    loop-less
+    loop-again
+    returns-2)

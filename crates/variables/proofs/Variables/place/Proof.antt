@@ -1,17 +1,13 @@
-use borrow.Author.Needs.{needs}
-use native.Mathlib.Omega.{arith}
-use Rattle.variables.proofs.State.{unmapped, found-here, found-on, found-end, found-clamped}
-use Rattle.variables.specs.State.{placeOf, definitionOf}
-use lib.ListN.{length, drop, take}
-use Prim.Native.Nat.{_-_, _≤_}
 use mathlib.Core.Path.{_≡_, refl, sym, _∙_}
 use mathlib.Core.List.{[], map}
+use Prim.Native.Nat.{_-_, _≤_}
+use native.Mathlib.Omega.{arith}
+use borrow.Author.Needs.{needs}
+use lib.ListN.{length, drop, take}
+use Rattle.variables.proofs.State.{unmapped, found-here, found-on, found-end, found-clamped}
+use Rattle.variables.specs.State.{placeOf, definitionOf}
 use Rattle.variables.proofs.Variables.place.Statement.{statement}
 use Rattle.variables.proofs.Variables.place.Tie as tie
-use Rattle.variables.proofs.Variables.place.Reads as reads
-use Rattle.variables.proofs.Variables.place.Lts as lts
-use Rattle.variables.proofs.at_most.Reads as at-most-reads
-use Rattle.variables.proofs.same_name.Reads as same-name-reads
 
 abbrev Inv-loop : tie.InvT-loop
 Inv-loop name self n i₀ i = (i ≤ n) × (placeOf i name (map definitionOf (drop i (take n (self .vars)))) ≡ placeOf 0 name (map definitionOf (take n (self .vars))))
@@ -19,43 +15,33 @@ Inv-loop name self n i₀ i = (i ≤ n) × (placeOf i name (map definitionOf (dr
 abbrev μ-loop : tie.MeasureT-loop
 μ-loop name self n i₀ i = n - i
 
--- src/lib.rt:112:13
 at-most-requires : tie.Need-at-most-requires Inv-loop μ-loop
 at-most-requires c κs = search needs
 
--- src/lib.rt:114:9
 loop-holds : tie.Need-loop-holds Inv-loop μ-loop
 loop-holds c = (omega arith, refl)
 
--- src/lib.rt:115:21
 mul-v : tie.Need-mul-v Inv-loop μ-loop
 mul-v c = search needs
 
--- src/lib.rt:115:21
 element-copy-out-v : tie.Need-element-copy-out-v Inv-loop μ-loop
 element-copy-out-v c = search needs
 
--- src/lib.rt:118:16
 same-name-requires : tie.Need-same-name-requires Inv-loop μ-loop
 same-name-requires c κs = search needs
 
--- src/lib.rt:119:17
 returns : tie.Need-returns Inv-loop μ-loop
 returns c = let s = c .before .before .before .before .before .before .before .before .args .t1 in let l : length (s .vars) ≡ 64 = search (unmapped, needs) in found-clamped _ _ _ _ l (c .before .before .before .before .before .before .at-most .ensures) (sym (c .before .before .before .before .before .loop .inv .1) ∙ found-here (s .vars) _ _ _ _ (omega arith) (c .before .before .before .before .loop-test .taken) (c .before .same-name .ensures) (c .if1 .taken))
 
--- src/lib.rt:121:13
 add-i : tie.Need-add-i Inv-loop μ-loop
 add-i c = search needs
 
--- src/lib.rt:114:9
 loop-less : tie.Need-loop-less Inv-loop μ-loop
 loop-less c = search needs
 
--- src/lib.rt:114:9
 loop-again : tie.Need-loop-again Inv-loop μ-loop
 loop-again c = let s = c .before .before .before .before .before .before .before .before .args .t1 in let l : length (s .vars) ≡ 64 = search (unmapped, needs) in (omega arith, sym (found-on (s .vars) _ _ _ _ (omega arith) (c .before .before .before .before .loop-test .taken) (c .before .same-name .ensures) (c .if1 .left)) ∙ c .before .before .before .before .before .loop .inv .1)
 
--- src/lib.rt:109:5
 returns-2 : tie.Need-returns-2 Inv-loop μ-loop
 returns-2 c = let s = c .before .before .before .before .args .t1 in let l : length (s .vars) ≡ 64 = search (unmapped, needs) in found-clamped _ _ _ _ l (c .before .before .at-most .ensures) (sym (c .before .loop .inv .1) ∙ found-end (s .vars) (record { name = []; letters = 0; text = []; bytes = 0 }) _ _ _ (omega arith) (c .loop-test .left))
 

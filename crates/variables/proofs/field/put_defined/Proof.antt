@@ -1,47 +1,34 @@
-use Rattle.variables.proofs.Places.{puts-none, puts-some, found-none, found-text}
+use mathlib.Core.Path.{_≡_, sym}
+use native.Mathlib.Omega.{arith}
+use borrow.Author.Tests.{not-true, not-false}
+use borrow.Author.Needs.{needs}
 use lib.Seq.{length-take-le}
 use lib.ListN.{length}
-use borrow.Author.Tests.{not-true, not-false}
-use mathlib.Core.Path.{_≡_, sym, _∙_}
-use native.Mathlib.Omega.{arith}
-use borrow.Author.Needs.{needs}
+use Rattle.variables.proofs.Places.{puts-none, puts-some, found-none, found-text}
 use Rattle.variables.proofs.field.put_defined.Statement.{statement}
 use Rattle.variables.proofs.field.put_defined.Tie as tie
-use Rattle.variables.proofs.field.put_defined.Reads as reads
-use Rattle.variables.proofs.field.put_defined.Lts as lts
-use Rattle.variables.proofs.Variables.lookup.Reads as lookup-reads
-use Rattle.variables.proofs.at_most.Reads as at-most-reads
-use Rattle.variables.proofs.field.put_piece.Reads as put-piece-reads
 
--- src/field.rt:184:9
 lookup-requires : tie.Need-lookup-requires
 lookup-requires c κs = search needs
 
--- src/field.rt:186:9
 returns : tie.Need-returns
 returns c = puts-none (found-none (c .before .before .lookup .result) (not-true _ (c .if1 .taken)) (c .before .before .lookup .ensures))
 
--- src/field.rt:189:9
 at-most-requires : tie.Need-at-most-requires
 at-most-requires c κs = search needs
 
--- src/field.rt:190:34
 array-share-prefix-a : tie.Need-array-share-prefix-a
 array-share-prefix-a c = let l : length (c .before .before .before .before .before .lookup .result .text) ≡ 256 = search needs in omega (arith, c .before .at-most .ensures)
 
--- src/field.rt:190:34
 slice-aggregate-put-piece : tie.Need-slice-aggregate-put-piece
 slice-aggregate-put-piece c = let l : length (c .before .before .before .before .before .before .lookup .result .text) ≡ 256 = search needs in sym (length-take-le _ _ (omega (arith, c .before .before .at-most .ensures)))
 
--- src/field.rt:190:16
 put-piece-requires : tie.Need-put-piece-requires
 put-piece-requires c κs = search needs
 
--- src/field.rt:180:1
 same-length : tie.Need-same-length
 same-length c = search needs
 
--- src/field.rt:180:1
 returns-2 : tie.Need-returns-2
 returns-2 c = let l : length (c .before .before .before .before .before .before .before .before .before .lookup .result .text) ≡ 256 = search needs in puts-some (found-text (c .before .before .before .before .before .before .before .before .before .lookup .result) _ l (c .before .before .before .before .before .at-most .ensures) (not-false _ (c .before .before .before .before .before .before .before .if1 .left)) (c .before .before .before .before .before .before .before .before .before .lookup .ensures)) (c .before .before .put-piece .ensures .0) (c .before .before .put-piece .ensures .1)
 

@@ -1,24 +1,18 @@
-use lib.ListN.{length, drop, getD, length-drop}
+use mathlib.Core.List.{List}
+use mathlib.Core.Bool.{true}
+use mathlib.Core.Path.{_≡_, refl, _∙_}
+use Prim.Native.Nat.{ℕ, _+_, _-_, _≤_, _<_}
+use native.Mathlib.Omega.{arith}
 use borrow.Author.Needs.{needs}
+use lib.ListN.{length, drop, getD, length-drop}
 use Rattle.variables.proofs.Turns.{refer-rest, refer-size, turn-bad, turn-known}
 use Rattle.variables.proofs.Pieces.{pieces-end, writes-as, writes-text, writes-long, substitutes}
 use Rattle.variables.specs.Steps.{Writes}
 use Rattle.variables.specs.Field.{scopeOf}
 use Rattle.variables.specs.Substitute.{pieces, refers}
-use Rattle.variables.specs.declared.field.Quoting.the-variants.{Outside}
 use Rattle.variables.specs.declared.field.FieldText.{FieldText}
-use Rattle.text.proofs.Laws.{part-rest}
-use Prim.Native.Nat.{ℕ, _+_, _-_, _≤_, _<_}
-use mathlib.Core.List.{List}
-use mathlib.Core.Bool.{true}
-use mathlib.Core.Path.{_≡_, refl, sym, _∙_}
-use native.Mathlib.Omega.{arith}
 use Rattle.variables.proofs.field.put_field.Statement.{statement}
 use Rattle.variables.proofs.field.put_field.Tie as tie
-use Rattle.variables.proofs.field.put_field.Reads as reads
-use Rattle.variables.proofs.field.put_field.Lts as lts
-use Rattle.variables.proofs.field.put_reference.Reads as put-reference-reads
-use Rattle.variables.proofs.field.text_run.Reads as text-run-reads
 
 abbrev Inv-loop : tie.InvT-loop
 Inv-loop vars caller host field out₀ at₀ quoting₀ n₀ out at quoting n = (at ≤ length field) × (n ≤ 1025) × (length out ≡ length out₀) × (length out ≡ 1024) × (at < length field → refers quoting (getD field at 0) ≡ true) × ((last : List ℕ) (a : FieldText) → Writes out last n (pieces (scopeOf caller host vars) quoting 0 (drop at field)) a → Writes out₀ last n₀ (pieces (scopeOf caller host vars) quoting₀ 0 (drop at₀ field)) a)
@@ -26,83 +20,63 @@ Inv-loop vars caller host field out₀ at₀ quoting₀ n₀ out at quoting n = 
 abbrev μ-loop : tie.MeasureT-loop
 μ-loop vars caller host field out₀ at₀ quoting₀ n₀ out at quoting n = length field - at
 
--- src/field.rt:239:9
 text-run-requires : tie.Need-text-run-requires Inv-loop μ-loop
 text-run-requires c κs = (c .before .before .before .before .before .pre, omega arith, omega arith)
 
--- src/field.rt:243:5
 loop-holds : tie.Need-loop-holds Inv-loop μ-loop
 loop-holds c = let t = c .before .before .text-run .ensures in (t .high, t .small, refl, t .same-length ∙ c .before .before .before .before .before .before .before .before .pre, t .stops, λ last a w. w)
 
--- src/field.rt:244:81
 add-put-reference : tie.Need-add-put-reference Inv-loop μ-loop
 add-put-reference c = search needs
 
--- src/field.rt:244:74
 sub-put-reference : tie.Need-sub-put-reference Inv-loop μ-loop
 sub-put-reference c = search needs
 
--- src/field.rt:244:74
 part-put-reference-start : tie.Need-part-put-reference-start Inv-loop μ-loop
 part-put-reference-start c = search needs
 
--- src/field.rt:244:74
 part-put-reference-end : tie.Need-part-put-reference-end Inv-loop μ-loop
 part-put-reference-end c = search needs
 
--- src/field.rt:244:40
 put-reference-requires : tie.Need-put-reference-requires Inv-loop μ-loop
 put-reference-requires c κs = search needs
 
--- src/field.rt:244:29
 enum-known-size : tie.Need-enum-known-size Inv-loop μ-loop
 enum-known-size c = search needs
 
--- src/field.rt:245:13
 enum-told : tie.Need-enum-told Inv-loop μ-loop
 enum-told c = search needs
 
--- src/field.rt:245:13
 same-length : tie.Need-same-length Inv-loop μ-loop
 same-length c = search needs
 
--- src/field.rt:245:13
 returns : tie.Need-returns Inv-loop μ-loop
 returns c = let l = c .before .before .before .before .before .before .before .before .loop in let f = c .before .before .before .before .before .before .before .before .before .before .before .before .before .before .before .before .before .args .field .now in let h = c .before .before .before .before .before .before .before .loop-test .taken in substitutes (c .before .before .before .before .before .before .before .before .before .before .before .before .before .before .before .before .before .pre) (c .before .before .before .before .before .before .before .before .before .before .before .text-run .ensures .onward _ _ _ (l .inv .5 _ _ (turn-bad _ (l .quoting) f (l .at) h (l .inv .4 h) (refer-rest f (l .at + 1) (c .enum-told .given .1) (c .before .before .before .before .put-reference .ensures)))))
 
--- src/field.rt:247:35
 add-text-run : tie.Need-add-text-run Inv-loop μ-loop
 add-text-run c = search needs
 
--- src/field.rt:247:35
 add-text-run-2 : tie.Need-add-text-run-2 Inv-loop μ-loop
 add-text-run-2 c = let l = c .before .before .before .before .before .before .before .before .before .loop in let f = c .before .before .before .before .before .before .before .before .before .before .before .before .before .before .before .before .before .before .args .field .now in let z = refer-size (refer-rest f (l .at + 1) (c .before .size .given .1) (c .before .before .before .before .before .put-reference .ensures)) in omega (arith, z .0, length-drop (l .at + 1) f)
 
--- src/field.rt:247:13
 text-run-requires-2 : tie.Need-text-run-requires-2 Inv-loop μ-loop
 text-run-requires-2 c κs = let l = c .before .before .before .before .before .before .before .before .before .before .loop in let f = c .before .before .before .before .before .before .before .before .before .before .before .before .before .before .before .before .before .before .before .args .field .now in let z = refer-size (refer-rest f (l .at + 1) (c .before .before .size .given .1) (c .before .before .before .before .before .before .put-reference .ensures)) in (z .2 ∙ l .inv .3, omega (arith, z .0, length-drop (l .at + 1) f), z .1)
 
--- src/field.rt:243:5
 loop-less : tie.Need-loop-less Inv-loop μ-loop
 loop-less c = search needs
 
--- src/field.rt:243:5
 loop-again : tie.Need-loop-again Inv-loop μ-loop
 loop-again c = let l = c .before .before .before .before .before .before .before .before .before .before .before .before .before .loop in let f = c .before .before .before .before .before .before .before .before .before .before .before .before .before .before .before .before .before .before .before .before .before .before .args .field .now in let h = c .before .before .before .before .before .before .before .before .before .before .before .before .loop-test .taken in let w = refer-rest f (l .at + 1) (c .before .before .before .before .before .size .given .1) (c .before .before .before .before .before .before .before .before .before .put-reference .ensures) in let z = refer-size w in let t = c .before .before .text-run2 .ensures in (t .high, t .small, t .same-length ∙ z .2 ∙ l .inv .2, t .same-length ∙ z .2 ∙ l .inv .3, t .stops, λ last a v. l .inv .5 last a (turn-known _ (l .quoting) f (l .at) h (l .inv .4 h) (l .inv .3) w (t .onward _ last a v)))
 
--- src/field.rt:235:1
 same-length-2 : tie.Need-same-length-2 Inv-loop μ-loop
 same-length-2 c = search needs
 
--- src/field.rt:235:1
 returns-2 : tie.Need-returns-2 Inv-loop μ-loop
 returns-2 c = let l = c .before .before .loop in substitutes (c .before .before .before .before .before .before .before .before .before .before .before .pre) (c .before .before .before .before .before .text-run .ensures .onward _ _ _ (l .inv .5 _ _ (writes-as (pieces-end _ (l .quoting) _ (l .at) (c .before .loop-test .left)) (writes-long _ _ (c .if1 .taken)))))
 
--- src/field.rt:235:1
 same-length-3 : tie.Need-same-length-3 Inv-loop μ-loop
 same-length-3 c = search needs
 
--- src/field.rt:235:1
 returns-3 : tie.Need-returns-3 Inv-loop μ-loop
 returns-3 c = let l = c .before .before .loop in substitutes (c .before .before .before .before .before .before .before .before .before .before .before .pre) (c .before .before .before .before .before .text-run .ensures .onward _ _ _ (l .inv .5 _ _ (writes-as (pieces-end _ (l .quoting) _ (l .at) (c .before .loop-test .left)) (writes-text _ _ (c .if1 .left)))))
 

@@ -1,0 +1,161 @@
+-- Which arguments fail a pattern, kept by value. Assumes nothing.
+use mathlib.Core.Path.{_≡_, refl, sym, ap, _∙_}
+use mathlib.Core.Bool.{Bool, false, not}
+use mathlib.Core.List.{List, [], _∷_, _++_, append-nil}
+use mathlib.Core.Option.{some}
+use Prim.Native.Nat.{ℕ, zero, suc, _+_, _-_, _≤_, _<_}
+use native.Mathlib.Omega.{arith}
+use native.Mathlib.Numerals.{add-one}
+use borrow.Author.Tests.{le-leb, lt-leb}
+use lib.Dec.{leb}
+use lib.ListN.{length, take, drop, getD, set, replicate, drop-of-length-le, take-append-drop}
+use lib.Seq.{take-all, take-suc-set, drop-set-lt}
+use Rattle.text.specs.Choice.{either}
+use Rattle.text.specs.Lists.{all, any}
+use Rattle.text.proofs.Laws.{next-of, both-no, both-yes, not-both}
+use Rattle.text.proofs.Lists.{all-append}
+use Rattle.question.specs.Strings.{stringsIn, untilZero}
+use Rattle.question.proofs.ZeroEnded.{in-at, in-open, in-end}
+use Rattle.pattern.specs.declared.Kind.the-variants.{Plain}
+use Rattle.pattern.specs.Whole.{matchesPattern}
+use Rattle.options.specs.Options.{range}
+use Rattle.options.specs.Arguments.{ArgumentPattern, patternAt, passes, argumentsFrom, argumentsPass, inForce, failuresFrom, failures, marked, joined}
+
+-- one argument and one pattern
+module _ (k m n : ℕ) (p a : List ℕ) {b : Bool} (e : b ≡ false) where
+  pub fails-low : k < m → false ≡ either b (not (passes k a (patternAt (range m n) p)))
+  unfolding passes
+  fails-low h = rw (e, lt-leb m k h)
+
+  pub fails-high : n < k → false ≡ either b (not (passes k a (patternAt (range m n) p)))
+  unfolding passes
+  fails-high h = rw (e, lt-leb k n h, both-no (leb m k))
+
+  pub fails-in : {r : Bool} → m ≤ k → k ≤ n → r ≡ matchesPattern Plain p a → not r ≡ either b (not (passes k a (patternAt (range m n) p)))
+  unfolding passes matchesPattern
+  fails-in h l q = rw (e, le-leb m k h, le-leb k n l, q)
+
+-- one store of a loop over a list of failures, seen from before and from behind
+module _ (l : List Bool) (i : ℕ) (b : Bool) (h : i < length l) where
+  stored-front : take (i + 1) (set l i b) ≡ take i l ++ (b ∷ [])
+  stored-front = rw (add-one, take-suc-set l i b)
+
+  stored-back : drop (i + 1) (set l i b) ≡ drop (i + 1) l
+  stored-back = drop-set-lt (i + 1) l i b (omega arith)
+
+append-one : (xs : List Bool) (b : Bool) (ys : List Bool) → (xs ++ (b ∷ [])) ++ ys ≡ xs ++ (b ∷ ys)
+append-one [] b ys = refl
+append-one (x ∷ xs) b ys = ap (λ l. x ∷ l) (append-one xs b ys)
+
+marked-none : (i : ℕ) (p : ArgumentPattern) (fs : List Bool) → marked i p [] fs ≡ fs
+unfolding marked
+marked-none i p [] = refl
+marked-none i p (f ∷ fs) = refl
+
+-- the loop that marks the failures of one pattern, at position i with the strings from `from` on
+module _ (p : ArgumentPattern) (args : List ℕ) (at : List Bool) (from i : ℕ) where
+  -- what the loop has done, and what is left to do
+  abbrev pub markedFrom : List Bool
+  markedFrom = take i at ++ marked (i + 1) p (stringsIn (drop from args)) (drop i at)
+
+  marked-off : stringsIn (drop from args) ≡ [] → markedFrom ≡ at
+  marked-off e = rw (e, marked-none (i + 1) p (drop i at)) (take-append-drop i at)
+
+  pub marked-end : length args ≤ from → at ≡ markedFrom
+  marked-end h = sym (marked-off (in-end args from h))
+
+  pub marked-full : length at ≤ i → at ≡ markedFrom
+  unfolding marked
+  marked-full h = sym (rw (drop-of-length-le at h, take-all i at h) (append-nil at))
+
+  module _ (end : ℕ) (e : end ≡ from + untilZero (drop from args)) where
+    pub marked-open : end ≡ length args → at ≡ markedFrom
+    marked-open q = sym (marked-off (in-open args from end e q))
+
+    pub marked-on : end < length args → i < length at → {b : Bool}
+        → b ≡ either (getD at i false) (not (passes (i + 1) (take (end - from) (drop from args)) p))
+        → take (i + 1) (set at i b) ++ marked (i + 1 + 1) p (stringsIn (drop (end + 1) args)) (drop (i + 1) (set at i b)) ≡ markedFrom
+    unfolding marked
+    marked-on h k {b} q =
+        rw (stored-front at i b k, stored-back at i b k, in-at args from end e h, next-of false at i k, ← q)
+        (append-one (take i at) b (marked (i + 1 + 1) p (stringsIn (drop (end + 1) args)) (drop (i + 1) at)))
+
+-- the loop that joins two lists of failures
+module _ (at other : List Bool) (i : ℕ) where
+  abbrev pub joinedFrom : List Bool
+  joinedFrom = take i at ++ joined (drop i at) (drop i other)
+
+  pub joined-end : length at ≤ i → length other ≤ i → at ≡ joinedFrom
+  unfolding joined
+  joined-end h k = sym (rw (drop-of-length-le at h, drop-of-length-le other k, take-all i at h) (append-nil at))
+
+  pub joined-on : i < length at → i < length other → {b : Bool} → b ≡ either (getD at i false) (getD other i false)
+      → take (i + 1) (set at i b) ++ joined (drop (i + 1) (set at i b)) (drop (i + 1) other) ≡ joinedFrom
+  unfolding joined
+  joined-on h k {b} q =
+      rw (stored-front at i b h, stored-back at i b h, next-of false at i h, next-of false other i k, ← q)
+      (append-one (take i at) b (joined (drop (i + 1) at) (drop (i + 1) other)))
+
+-- what the failures mean
+
+-- no pattern, no failure; no argument, no failure
+none-from : (n i : ℕ) (xs : List (List ℕ)) → failuresFrom n i [] xs ≡ replicate n false
+unfolding failuresFrom all
+none-from zero i xs = refl
+none-from (suc n) i [] = ap (λ l. false ∷ l) (none-from n (i + 1) [])
+none-from (suc n) i (a ∷ xs) = ap (λ l. false ∷ l) (none-from n (i + 1) xs)
+
+empty-from : (n i : ℕ) (ps : List ArgumentPattern) → failuresFrom n i ps [] ≡ replicate n false
+unfolding failuresFrom
+empty-from zero i ps = refl
+empty-from (suc n) i ps = ap (λ l. false ∷ l) (empty-from n (i + 1) ps)
+
+pub failures-none : (xs : List (List ℕ)) → failures [] xs ≡ replicate 64 false
+unfolding failures
+failures-none xs = none-from 64 1 xs
+
+fail-more : (f : ArgumentPattern → Bool) (ps qs : List ArgumentPattern) → not (all f (ps ++ qs)) ≡ either (not (all f ps)) (not (all f qs))
+fail-more f ps qs = ap not (all-append f ps qs) ∙ not-both (all f ps) (all f qs)
+
+more-from : (n i : ℕ) (ps : List ArgumentPattern) (p : ArgumentPattern) (xs : List (List ℕ)) → marked i p xs (failuresFrom n i ps xs) ≡ failuresFrom n i (ps ++ (p ∷ [])) xs
+unfolding failuresFrom marked all
+more-from zero i ps p [] = refl
+more-from zero i ps p (a ∷ xs) = refl
+more-from (suc n) i ps p [] = ap (λ l. false ∷ l) (empty-from n (i + 1) ps ∙ sym (empty-from n (i + 1) (ps ++ (p ∷ []))))
+more-from (suc n) i ps p (a ∷ xs) =
+    let h : not (all (passes i a) (ps ++ (p ∷ []))) ≡ either (not (all (passes i a) ps)) (not (passes i a p)) = fail-more (passes i a) ps (p ∷ []) ∙ rw (both-yes (passes i a p)) in
+    rw (h, more-from n (i + 1) ps p xs)
+
+-- one more pattern
+pub failures-more : (ps : List ArgumentPattern) (p : ArgumentPattern) (xs : List (List ℕ)) → marked 1 p xs (failures ps xs) ≡ failures (ps ++ (p ∷ [])) xs
+unfolding failures
+failures-more ps p xs = more-from 64 1 ps p xs
+
+same-from : (n : ℕ) → joined (replicate n false) (replicate n false) ≡ replicate n false
+unfolding joined
+same-from zero = refl
+same-from (suc n) = ap (λ l. false ∷ l) (same-from n)
+
+joined-from : (n i : ℕ) (ps qs : List ArgumentPattern) (xs : List (List ℕ)) → joined (failuresFrom n i ps xs) (failuresFrom n i qs xs) ≡ failuresFrom n i (ps ++ qs) xs
+unfolding failuresFrom joined
+joined-from zero i ps qs xs = refl
+joined-from (suc n) i ps qs [] = ap (λ l. false ∷ l) (rw (empty-from n (i + 1) ps, empty-from n (i + 1) qs, empty-from n (i + 1) (ps ++ qs)) (same-from n))
+joined-from (suc n) i ps qs (a ∷ xs) = rw (fail-more (passes i a) ps qs, joined-from n (i + 1) ps qs xs)
+
+-- the patterns in force globally and the entry's own
+pub failures-own : (global own : List ArgumentPattern) (xs : List (List ℕ)) → joined (failures global xs) (failures own xs) ≡ failures (inForce global own) xs
+unfolding failures inForce
+failures-own global own xs = joined-from 64 1 global own xs
+
+some-from : (n i : ℕ) (ps : List ArgumentPattern) (xs : List (List ℕ)) → length xs ≤ n → any (λ f. f) (failuresFrom n i ps xs) ≡ not (argumentsFrom i ps xs)
+unfolding failuresFrom argumentsFrom any
+some-from zero i ps [] h = refl
+some-from zero i ps (a ∷ xs) h = absurd (omega arith)
+some-from (suc n) i ps [] h = some-from n (i + 1) ps [] (omega arith)
+some-from (suc n) i ps (a ∷ xs) h =
+    rw (some-from n (i + 1) ps xs (omega arith)) (sym (not-both (all (passes i a) ps) (argumentsFrom (i + 1) ps xs)))
+
+-- some argument fails exactly if they do not all pass
+pub failures-some : (ps : List ArgumentPattern) (xs : List (List ℕ)) → length xs ≤ 64 → any (λ f. f) (failures ps xs) ≡ not (argumentsPass ps xs)
+unfolding failures argumentsPass
+failures-some ps xs h = some-from 64 1 ps xs h

@@ -1,0 +1,102 @@
+-- Names in options, by value. Assumes nothing.
+use mathlib.Core.Path.{_≡_, refl, sym, ap, _∙_}
+use mathlib.Core.Bool.{true, false, not}
+use mathlib.Core.List.{List, [], _∷_}
+use mathlib.Core.Option.{some}
+use Prim.Native.Nat.{ℕ, _+_, _≤_, _<_, min}
+use native.Mathlib.Omega.{arith}
+use native.Mathlib.Numerals.{add-one}
+use native.Mathlib.Decide.{decLe}
+use lib.ListN.{length, take, getD, set}
+use lib.Seq.{take-all, take-suc, take-suc-set}
+use Rattle.text.specs.Choice.{both}
+use Rattle.text.specs.Bytes.{bytes}
+use Rattle.text.specs.Class.{nameByte}
+use Rattle.text.specs.Lists.{all, firstOf, null}
+use Rattle.text.specs.Slice.{same}
+use Rattle.text.specs.Buffer.{Wrote}
+use Rattle.text.specs.declared.buffer.Filled.{Filled}
+use Rattle.options.specs.declared.ids.IdName.{IdName}
+use Rattle.options.specs.Options.{idOr}
+use Rattle.options.specs.Read.{isId}
+use Rattle.options.specs.Values.{idIn}
+
+module _ (a b : IdName) where
+  pub id-given : a .given ≡ true → idIn a ≡ firstOf (idIn a) (idIn b)
+  unfolding idIn
+  id-given e = rw e
+
+  pub id-else : a .given ≡ false → idIn b ≡ firstOf (idIn a) (idIn b)
+  unfolding idIn
+  id-else e = rw e
+
+-- one more byte copied
+pub copied : (a s : List ℕ) (i : ℕ) → i < length s → i < length a → take i a ≡ take i s → take (i + 1) (set a i (getD s i 0)) ≡ take (i + 1) s
+copied a s i h g e = rw (add-one, take-suc-set a i (getD s i 0) g, take-suc s i 0 h, e)
+
+-- a length that is clamped takes the same
+pub take-min : {A : Type 0} (n m : ℕ) (l : List A) → length l ≤ m → take (min n m) l ≡ take n l
+take-min n m l h = elim (decLe n m) [ yes g ↦ small (omega arith) | no g ↦ large (omega arith) (omega arith) ]
+  where
+    small : min n m ≡ n → take (min n m) l ≡ take n l
+    small e = rw e
+
+    large : min n m ≡ m → length l ≤ n → take (min n m) l ≡ take n l
+    large e g = rw (e, take-all m l h, take-all n l g)
+
+take-most : {A : Type 0} (m : ℕ) (l : List A) → take (min (length l) m) l ≡ take m l
+take-most m l = elim (decLe (length l) m) [ yes g ↦ small (omega arith) (omega arith) | no g ↦ large (omega arith) ]
+  where
+    small : min (length l) m ≡ length l → length l ≤ m → take (min (length l) m) l ≡ take m l
+    small e h = rw (e, take-all (length l) l (omega arith), take-all m l h)
+
+    large : min (length l) m ≡ m → take (min (length l) m) l ≡ take m l
+    large e = rw e
+
+-- the copy of a value
+pub held : (a v : List ℕ) (size i : ℕ) → size ≡ min (length v) 64 → i ≤ size → size ≤ i → take i a ≡ take i v → idIn (record { bytes = a; size = size; given = true }) ≡ some (take 64 v)
+unfolding idIn
+held a v size i e h k p =
+    let z : size ≡ i = omega arith in
+    let q : take size a ≡ take size v = rw z p in
+    ap some (q ∙ rw e (take-most 64 v))
+
+-- a name put into a buffer
+module _ {old new : List ℕ} {n : ℕ} {r : Filled} (a : IdName) (l : length (a .bytes) ≡ 64) (size : ℕ) where
+  pub put-given : a .given ≡ true → size ≡ min (a .size) 64 → Wrote old new n (take size (a .bytes)) r → Wrote old new n (idOr (idIn a)) r
+  unfolding idIn
+  put-given e s w =
+      let g : length (a .bytes) ≤ 64 = omega arith in
+      let q : idOr (idIn a) ≡ take size (a .bytes) = rw (e, s) (sym (take-min (a .size) 64 (a .bytes) g)) in
+      rw q w
+
+pub put-none : {old new : List ℕ} {n : ℕ} {r : Filled} (a : IdName) → a .given ≡ false → Wrote old new n [] r → Wrote old new n (idOr (idIn a)) r
+unfolding idIn
+put-none a e w = rw e w
+
+module _ (v : List ℕ) where
+  pub is-owner : same v (bytes "<owner>") ≡ true → true ≡ isId v
+  unfolding isId
+  is-owner t = rw t
+
+  module _ (a : same v (bytes "<owner>") ≡ false) where
+    pub is-caller : same v (bytes "<caller>") ≡ true → true ≡ isId v
+    unfolding isId
+    is-caller t = rw (a, t)
+
+    module _ (b : same v (bytes "<caller>") ≡ false) where
+      pub is-empty : length v ≡ 0 → false ≡ isId v
+      unfolding isId
+      is-empty h = rw (a, b) (go v h)
+        where
+          go : (l : List ℕ) → length l ≡ 0 → false ≡ both (not (null l)) (all nameByte l)
+          go [] e = refl
+          go (x ∷ l) e = absurd (omega arith)
+
+      pub is-name : (length v ≡ 0 → ⊥) → all nameByte v ≡ isId v
+      unfolding isId
+      is-name h = rw (a, b) (go v h)
+        where
+          go : (l : List ℕ) → (length l ≡ 0 → ⊥) → all nameByte l ≡ both (not (null l)) (all nameByte l)
+          go [] e = absurd (e refl)
+          go (x ∷ l) e = refl
