@@ -15,7 +15,7 @@ use Rattle.question.specs.Question.{Question, questionOf}
 use Rattle.line.specs.Line.{Line}
 use Rattle.line.specs.Fold.{Step, fault as stop, go, Verdict, none as undecided, made, Out, refused, short, decided, outcome}
 use Rattle.line.specs.Refused.{refusedByte}
-use Rattle.options.specs.Options.{Options, Range, authOr}
+use Rattle.options.specs.Options.{Options, Range, authOr, idOr}
 use Rattle.entry.specs.Verdict.{Verdict as EntryVerdict, permit, password, stoppedByNargs, stoppedByArgument, stoppedByPath}
 use Rattle.reader.specs.State.{State, Decision, start}
 use Rattle.reader.specs.Read.{lineRead}
@@ -45,12 +45,7 @@ pub record Outcome : Type 0 where
 abbrev pub result : Answer → List ℕ → Outcome
 result a b = record { answer = a; buffer = b }
 
--- an option that is not set gives an empty string
-abbrev pub idOr : Option (List ℕ) → List ℕ
-idOr none = []
-idOr (some i) = i
-
--- five strings, each ended by a zero byte: path, uid, euid, gid, egid
+-- five strings, each ended by a zero byte: path, uid, euid, gid, egid; an option that is not set gives an empty string
 unfoldable pub strings : List ℕ → Options → List ℕ
 strings path o =
     path ++ 0 ∷ idOr (o .uid) ++ 0 ∷ idOr (o .euid) ++ 0 ∷ idOr (o .gid) ++ 0 ∷ idOr (o .egid) ++ 0 ∷ []
