@@ -34,7 +34,10 @@ def damaged(r, data, alphabet):
 
 # Patterns
 
-SETS = [b"[ab]", b"[!ab]", b"[a-c]", b"[!a-c]", b"[a-]", b"[-a]", b"[a-c-e]", b"[--a]", b"[!-]", b"[!!]", b"[\\]", b"[{,}]", b"[@]", b"[[a]]", b"[]", b"[!]", b"[]a]", b"[z-a]", b"[^a]", b"[a-a]"]
+SETS = [
+    b"[ab]", b"[!ab]", b"[a-c]", b"[!a-c]", b"[a-]", b"[-a]", b"[a-c-e]", b"[--a]", b"[!-]", b"[!!]",
+    b"[\\]", b"[{,}]", b"[@]", b"[[a]]", b"[]", b"[!]", b"[]a]", b"[z-a]", b"[^a]", b"[a-a]",
+]
 PATTERN_BYTES = b"{{}}[],\\!@-*?ab"
 
 
@@ -80,12 +83,42 @@ def pattern_and_name(r):
     return text, name
 
 
+def is_good_set(body):
+    """Whether what stands in brackets is not empty, and no range in it runs backwards."""
+    members = body[1:] if body.startswith(b"!") else body
+    place = 0
+    while place < len(members):
+        if len(members) - place > 2 and members[place + 1 : place + 2] == b"-":
+            if members[place] > members[place + 2]:
+                return False
+            place += 2
+        place += 1
+    return len(members) > 0
+
+
+def is_well_formed(text):
+    """Whether the sets and escapes of a brace-free pattern are well formed."""
+    place = 0
+    while place < len(text):
+        if text[place : place + 1] == b"[":
+            end = text.find(b"]", place + 1)
+            if end < 0 or not is_good_set(text[place + 1 : end]):
+                return False
+            place = end
+        elif text[place : place + 1] == b"\\":
+            place += 1
+        place += 1
+    return place == len(text)
+
+
 def random_user(r):
-    parts = [sequence(r, 0, 3)[0] for _ in range(r.choice([1, 1, 2, 2, 2, 3]))]
-    text = b"@".join(parts)
-    if r.random() < 0.2:
-        text = damaged(r, text, b"!:~@\\[]ab")
-    return text
+    """An alternative; as an expansion of a well-formed pattern it is well formed."""
+    while True:
+        text = b"@".join(sequence(r, 0, 3)[0] for _ in range(r.choice([1, 1, 2, 2, 2, 3])))
+        if r.random() < 0.2:
+            text = damaged(r, text, b"!:~@\\[]ab")
+        if is_well_formed(text):
+            return text
 
 
 def pattern_line(r):
@@ -106,7 +139,7 @@ def sized_patterns():
         yield b"{" + b"," * (number - 1) + b"}"
         yield b",".join([b"a"] * number)
         yield b"{a,b}{" + b"," * (number // 2 - 1) + b"}"
-    for factors in [(8, 8), (5, 13), (7, 9), (4, 16), (2, 33), (64, 1), (65, 1), (2,) * 6, (2,) * 7, (4, 4, 4), (1,) * 9]:
+    for factors in [(8, 8), (5, 13), (7, 9), (4, 16), (2, 33), (64, 1), (65, 1), (2,) * 6, (2,) * 7, (4,) * 3, (1,) * 9]:
         yield b"".join(b"{" + b",".join([b"a"] * factor) + b"}" for factor in factors)
     for length in (1022, 1023, 1024):
         yield b"a" * length
@@ -121,7 +154,11 @@ def pattern_limits(r):
         for kind in KINDS[:2]:
             for name in (b"", b"a", b"aa", b"ab", b"x{", b"a" * 1023):
                 yield f"match {kind} {hexed(text)} {hexed(name)}"
-    for line in ("pattern", "pattern plain", "pattern plain 6", "pattern plain zz", "pattern other .", "pattern plain . .", "match time . .", "match plain 61", "user", "user . .", "user", " pattern plain .", "pattern  plain ."):
+    for line in (
+        "pattern", "pattern plain", "pattern plain 6", "pattern plain zz", "pattern other .",
+        "pattern plain . .", "match time . .", "match plain 61", "user", "user . .", "user",
+        " pattern plain .", "pattern  plain .",
+    ):
         yield line
 
 
@@ -137,9 +174,14 @@ def random_name(r, most):
     return damaged(r, name, b"a/:@ \x00\x7f\xff") if r.random() < 0.05 else name
 
 
+def random_component(r):
+    if r.random() < 0.1:
+        return r.choice([b".", b"..", b"...", b"", b"a."])
+    return some(r, b"abZ9.~!*", r.randrange(1, 5))
+
+
 def random_command(r):
-    parts = [r.choice([b".", b"..", b"...", b"", b"a."]) if r.random() < 0.1 else some(r, b"abZ9.~!*", r.randrange(1, 5)) for _ in range(r.randrange(1, 5))]
-    command = b"/".join(parts)
+    command = b"/".join(random_component(r) for _ in range(r.randrange(1, 5)))
     if r.random() < 0.2:
         command = command.ljust(edge_length(r, 256), b"x")
     if r.random() < 0.1:
@@ -158,7 +200,8 @@ def random_groups(r):
 
 def random_arguments(r):
     count = r.choice([0, 0, 1, 2, 3]) if r.random() < 0.95 else r.choice([63, 64, 65])
-    return zero_ended(some(r, PRINTABLE, edge_length(r, 256) if r.random() < 0.03 else r.randrange(4)) for _ in range(count))
+    lengths = [edge_length(r, 256) if r.random() < 0.03 else r.randrange(4) for _ in range(count)]
+    return zero_ended(some(r, PRINTABLE, length) for length in lengths)
 
 
 def random_list(r, data):
@@ -168,7 +211,10 @@ def random_list(r, data):
 
 
 MINUTES = [0, 1, WEEK - 1, WEEK, WEEK + 1, 65535, 65536, 2**32, 2**64 - 1]
-AGES = ["never", "0", "-0", "1", "-1", "00015", "2147483647", "-2147483648", "2147483648", "-2147483649", "+1", "", "-", "1x", "32767", "32768", "-32768"]
+AGES = [
+    "never", "0", "-0", "1", "-1", "00015", "2147483647", "-2147483648", "2147483648", "-2147483649", "+1",
+    "", "-", "1x", "32767", "32768", "-32768",
+]
 
 
 def question_line(r):
@@ -211,7 +257,10 @@ def question_limits(r):
         yield line(groups=one + b"\0")
         yield line(arguments=one + b"\0")
         yield line(arguments=one)
-    for command in (b"/", b"/a", b"a/", b"a//b", b".", b"..", b"...", b"a/.", b"./a", b"a/../b", b"a/.../b", b".a/b.", b"..a", b"a.."):
+    for command in (
+        b"/", b"/a", b"a/", b"a//b", b".", b"..", b"...", b"a/.", b"./a", b"a/../b", b"a/.../b", b".a/b.",
+        b"..a", b"a..",
+    ):
         yield line(command=command)
     for minute in [str(minute) for minute in MINUTES] + [str(2**64), "-1", "", "x", "007", "1 "]:
         yield line(minute=minute)
@@ -229,7 +278,11 @@ def question_limits(r):
 # Times
 
 ITEM_BYTES = b"0129:-/<>=*monTUE ,x"
-SAMPLE_ITEMS = [b"8-9", b"0-24", b"24-24", b"0-0", b"7:05-17:30/wed", b"23:59-24:00", b">=17:30/mon", b"<=8/tues", b"<0", b"<24", b">23:59", b">=24:00", b">0/sun", b"<=23:59/*", b"SUNDAY", b"*", b"sat", b">22:59/Thu", b"<1:00/fri"]
+SAMPLE_ITEMS = [
+    b"8-9", b"0-24", b"24-24", b"0-0", b"7:05-17:30/wed", b"23:59-24:00", b">=17:30/mon", b"<=8/tues", b"<0",
+    b"<24", b">23:59", b">=24:00", b">0/sun", b"<=23:59/*", b"SUNDAY", b"*", b"sat", b">22:59/Thu",
+    b"<1:00/fri",
+]
 
 
 def random_clock(r):

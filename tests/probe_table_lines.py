@@ -16,7 +16,10 @@ cal/* /opt/*/run group~bench nargs=0-2
 
 # Lines of a table
 
-LINE_PIECES = [b"a", b"B1_", b"9", b"_", b" ", b"  ", b"\t", b"\\\n ", b"\\\n\t ", b"\\\n", b"#", b'"', b"'", b"\\", b"\\\\\n ", b"$X", b":", b"::", b",", b"%", b"&", b";", b"`", b"=", b"-", b'"a b"', b"'#'", b"''"]
+LINE_PIECES = [
+    b"a", b"B1_", b"9", b"_", b" ", b"  ", b"\t", b"\\\n ", b"\\\n\t ", b"\\\n", b"#", b'"', b"'", b"\\",
+    b"\\\\\n ", b"$X", b":", b"::", b",", b"%", b"&", b";", b"`", b"=", b"-", b'"a b"', b"'#'", b"''",
+]
 FIRST_PIECES = [b"#", b" ", b"\t", b":", b"\\\n ", b"\\\n", b'"', b":if", b"\\\n #"]
 
 
@@ -40,7 +43,10 @@ def random_table(r):
 
 
 # Pieces after a letter, and how many bytes they are of the joined line.
-SIZED_PIECES = [(b"x", 1), (b"\\\n x", 2), (b"\\\n \t x", 2), (b"-\\\n x", 2), (b" \\\n x", 2), (b"'\\\n ''", 3), (b"\\\\\n x", 2), (b"#y\\\n x", 4), (b"#\\\n \\\n x", 3), (b"x y", 3)]
+SIZED_PIECES = [
+    (b"x", 1), (b"\\\n x", 2), (b"\\\n \t x", 2), (b"-\\\n x", 2), (b" \\\n x", 2), (b"'\\\n ''", 3),
+    (b"\\\\\n x", 2), (b"#y\\\n x", 4), (b"#\\\n \\\n x", 3), (b"x y", 3),
+]
 
 
 def sized_line(r, length):
@@ -82,8 +88,8 @@ def line_limits(r):
         yield f"ends {hexed(b'a' * size)}"
         yield f"ends {hexed(b'a' * size + b'%c' % 10)}"
         yield f"line {hexed(b'#' + b'a' * size)}"
-    yield f"ends {hexed(bytes([10]) * 9000)}"
-    yield f"ends {hexed(bytes([92, 10]) * 9000 + bytes([10]))}"
+    yield f"ends {hexed(bytes([10]) * 32768)}"
+    yield f"ends {hexed(bytes([92, 10]) * 16383 + bytes([10]))}"
     for length in [4094, 4095, 4096, 4097, 4098] * 20:
         yield f"line {hexed(sized_line(r, length))}"
         yield f"line {hexed(b'#' + sized_line(r, length - 1))}"
@@ -98,10 +104,18 @@ def line_limits(r):
         yield line
 
 
-# Variables
+# Variables. No name here has more than 64 bytes and no text more than 256: a `:define` line refuses those.
 
 NAMES = [b"A", b"B", b"X1", b"_", b"Crew", b"IS", b"HOS", b"CALLERS", b"N" * 64, b"n" * 63]
-FIELD_PIECES = [b"$", b"$(", b")", b"(", b"'", b'"', b"\\", b"x", b" ", b"{", b",", b"1", b"$1", b"$()", b"$ (A)", b"$(A )", b"$CALLER", b"$(HOST)", b"$IS_USERTAB", b"$NONE", b"''", b'""', b"'$A'", b'"$A"', b"$$", b"$" + b"N" * 64, b"$(" + b"N" * 64 + b")", b"$" + b"N" * 65, b"=", b"#", b"-"]
+FIELD_PIECES = [
+    b"$", b"$(", b")", b"(", b"'", b'"', b"\\", b"x", b" ", b"{", b",", b"1", b"$1", b"$()", b"$ (A)",
+    b"$(A )", b"$CALLER", b"$(HOST)", b"$IS_USERTAB", b"$NONE", b"''", b'""', b"'$A'", b'"$A"', b"$$",
+    b"$" + b"N" * 64, b"$(" + b"N" * 64 + b")", b"$" + b"N" * 65, b"=", b"#", b"-",
+]
+
+
+BUILT_IN = [b"CALLER", b"HOST", b"IS_USERTAB"]
+BAD_DEFINITIONS = [hexed(name) + "=61" for name in BUILT_IN] + ["61", "=", "61=", "=61", "61=6", "61=61=61"]
 
 
 def random_text(r):
@@ -110,8 +124,8 @@ def random_text(r):
     return some(r, b"ab'\"$ (){},\\", r.randrange(6))
 
 
-def definitions(r, count):
-    return [f"{hexed(r.choice(NAMES))}={hexed(random_text(r))}" for _ in range(count)]
+def definitions(r, names):
+    return [f"{hexed(name)}={hexed(random_text(r))}" for name in names]
 
 
 def random_field(r):
@@ -132,19 +146,23 @@ def random_field(r):
 
 def variables_line(r):
     user, host = hexed(some(r, NAME_BYTES, r.randrange(1, 5))), hexed(some(r, NAME_BYTES, r.randrange(1, 5)))
-    words = definitions(r, r.randrange(6)) if r.random() < 0.4 else [f"{hexed(name)}={hexed(random_text(r))}" for name in NAMES]
+    words = definitions(r, r.choices(NAMES, k=r.randrange(6)) if r.random() < 0.4 else NAMES)
     if r.random() < 0.02:
-        words.append(r.choice(["484f5354=61", "43414c4c4552=.", "49535f55534552544142=61", "61", "=", "61=", "=61", "61=6", "61=61=61"]))
+        words.append(r.choice(BAD_DEFINITIONS))
     if r.random() < 0.75:
         return " ".join(["text", hexed(random_field(r)), user, host] + words)
-    name = r.choice(NAMES + [b"CALLER", b"HOST", b"IS_USERTAB", b"NONE", b""])
+    name = r.choice(NAMES + BUILT_IN + [b"NONE", b""])
     return " ".join(["define", user, host] + words + ["?", hexed(name)])
 
 
 def variables_limits(r):
     texts = f"{hexed(b'T')}={hexed(b't' * 256)} {hexed(b'E')}=."
     for length in range(1020, 1029):
-        for field in (b"x" * length, b"'" + b"x" * length + b"'", b"$T" * 3 + b"'" + b"x" * (length - 768) + b"'", b"$T$T$T$T$E" + b"x" * (length - 1024), b"x" * length + b"$", b"$" + b"x" * length, b"x" * (length - 256) + b"$(T)", b"x''" * length):
+        for field in (
+            b"x" * length, b"'" + b"x" * length + b"'", b"$T" * 3 + b"'" + b"x" * (length - 768) + b"'",
+            b"$T$T$T$T$E" + b"x" * (length - 1024), b"x" * length + b"$", b"$" + b"x" * length,
+            b"x" * (length - 256) + b"$(T)", b"x''" * length,
+        ):
             yield f"text {hexed(field)} 61 62 {texts}"
     for number in (1, 63, 64, 65, 66):
         many = [f"{hexed(b'X%d' % index)}={hexed(b'%d' % index)}" for index in range(number)]
@@ -152,19 +170,31 @@ def variables_limits(r):
             for name in (b"X0", b"X62", b"X63", b"X64", b"HOST", b"X"):
                 yield " ".join(["define 61 62"] + many + [f"{hexed(b'X%d' % again)}=7a", "?", hexed(name)])
         yield " ".join([f"text {hexed(b'$X0-$X63')} 61 62"] + many)
-    for line in ("define 61 62 ?", "define 61 62 ? 61 61", "define 61 62 41=61 61", "define 61 ? 41", "text", "text . 61", "text . 61 62 ?", "define 61 62 ? ? 41", "define 61 62 41=42 ? 41=42", "text=41 . .", "text . 61=62 63"):
+    for line in (
+        "define 61 62 ?", "define 61 62 ? 61 61", "define 61 62 41=61 61", "define 61 ? 41", "text",
+        "text . 61", "text . 61 62 ?", "define 61 62 ? ? 41", "define 61 62 41=42 ? 41=42", "text=41 . .",
+        "text . 61=62 63",
+    ):
         yield line
 
 
 # Options
 
-OPTION_NAMES = ["uid", "euid", "gid", "egid", "auth", "timeout", "nargs", "patterns", "arg1", "arg2", "arg1-2", "arg64", "arg1-64", "arg65", "arg0", "arg2-1", "arg00001", "arg000001", "arg", "arg-", "arg1-", "arg-1", "arg1-65", "ARG1", "Uid", "user", "time", ""]
-NUMBERS = ["", "0", "1", "00", "64", "65", "00064", "000064", "32767", "32768", "32769", "99999", "100000", "-", "+1", "1x", " 1"]
+OPTION_NAMES = [
+    "uid", "euid", "gid", "egid", "auth", "timeout", "nargs", "patterns", "arg1", "arg2", "arg1-2", "arg64",
+    "arg1-64", "arg65", "arg0", "arg2-1", "arg00001", "arg000001", "arg", "arg-", "arg1-", "arg-1",
+    "arg1-65", "ARG1", "Uid", "user", "time", "",
+]
+NUMBERS = [
+    "", "0", "1", "00", "64", "65", "00064", "000064", "32767", "32768", "32769", "99999", "100000", "-",
+    "+1", "1x", " 1",
+]
 
 
 def random_value(r, name):
     if name.endswith("id") and r.random() < 0.9:
-        value = r.choice([b"<owner>", b"<caller>", b"<Owner>", b"<owner", some(r, NAME_BYTES, edge_length(r, 64)), some(r, NAME_BYTES, 3)])
+        names = [some(r, NAME_BYTES, edge_length(r, 64)), some(r, NAME_BYTES, 3)]
+        value = r.choice(names + [b"<owner>", b"<caller>", b"<Owner>", b"<owner"])
         return damaged(r, value, b"a<>/ :") if r.random() < 0.15 else value
     if name == "auth" and r.random() < 0.9:
         return r.choice([b"y", b"n", b"", b"Y", b"yes", b"yy"])
@@ -201,10 +231,14 @@ def options_line(r):
     return " ".join(["option", place, hexed(field), str(count)] + [hexed(argument) for argument in arguments])
 
 
+VALUES = ["y", "n", "shell", "<owner>", "a:b", "*", "{a,b}", "{", "[]", "{{{{{a}}}}}", "," * 70]
+VALUES += ["{" + "," * 63 + "}", "{" + "," * 64 + "}"]
+
+
 def options_limits(r):
     fields = []
     for name in OPTION_NAMES:
-        for value in NUMBERS + ["y", "n", "shell", "<owner>", "a:b", "*", "{a,b}", "{", "[]", "{{{{{a}}}}}", "," * 70, "{" + "," * 63 + "}", "{" + "," * 64 + "}"]:
+        for value in NUMBERS + VALUES:
             fields.append(f"{name}={value}".encode())
     for length in range(0, 67):
         fields.append(b"uid=" + b"u" * length)
@@ -222,6 +256,10 @@ def options_limits(r):
     yield f"option global {hexed(b'arg1=a::b')} 2 {hexed(b'a::b')} 61"
     for count in (62, 63, 64):
         for field in (b"arg1-64=a", b"arg63-64=[!a]", b"arg64=", b"arg2-63=*"):
-            yield " ".join([f"option entry {hexed(field)} {count}"] + [hexed(r.choice([b"a", b"b", b""])) for _ in range(count)])
-    for line in ("option", "option entry 61", "option entry 61 1", "option entry 61 x", "option other 61 0", "option entry 61 0 61"):
+            arguments = [hexed(r.choice([b"a", b"b", b""])) for _ in range(count)]
+            yield " ".join([f"option entry {hexed(field)} {count}"] + arguments)
+    for line in (
+        "option", "option entry 61", "option entry 61 1", "option entry 61 x", "option other 61 0",
+        "option entry 61 0 61",
+    ):
         yield line

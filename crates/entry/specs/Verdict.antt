@@ -1,7 +1,7 @@
 -- What the deciding entry answers: nargs, argument patterns, path length, password, in that order (01, "Options").
 use Prim.Native.Nat.{ℕ}
 use mathlib.Core.Bool.{Bool, true, false, not}
-use mathlib.Core.List.{List, [], _∷_, _++_}
+use mathlib.Core.List.{List}
 use mathlib.Core.Option.{Option, none, some}
 use lib.Dec.{ltb}
 use lib.ListN.{length}
@@ -9,7 +9,7 @@ use Rattle.text.specs.Choice.{pick}
 use Rattle.question.specs.Question.{Question}
 use Rattle.question.specs.Password.{passwordNeeded}
 use Rattle.options.specs.Options.{Options, over, authOr, timeoutOr, nargsAllow}
-use Rattle.options.specs.Arguments.{ArgumentPattern, argumentsPass}
+use Rattle.options.specs.Arguments.{ArgumentPattern, inForce, argumentsPass}
 use Rattle.options.specs.Read.{optionsOf, argumentsOf}
 use Rattle.entry.specs.Piece.{Entry}
 use Rattle.entry.specs.Entry.{pathFor, conditionsAccept}
@@ -33,7 +33,7 @@ abbrev pub verdictIf : Question → Options → List ArgumentPattern → Entry �
 verdictIf q o ps e none = none
 verdictIf q o ps e (some path) =
     pick (conditionsAccept q e)
-    (some (verdictOn q (over (optionsOf (e .settings)) o) (ps ++ argumentsOf (e .settings)) path))
+    (some (verdictOn q (over (optionsOf (e .settings)) o) (inForce ps (argumentsOf (e .settings))) path))
     none
 
 -- the entry's verdict where its command, users and times all accept; options and argument patterns in force go before
