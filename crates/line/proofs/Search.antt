@@ -1,14 +1,14 @@
 -- The search for a control line's end, step by step. Assumes nothing.
-use Prim.Native.Nat.{ℕ, suc, _+_, _-_, _≤_, _<_}
 use mathlib.Core.Path.{_≡_, refl, sym, ap, _∙_}
 use mathlib.Core.Bool.{Bool, true, false, not}
 use mathlib.Core.List.{List, [], _∷_, _++_}
+use Prim.Native.Nat.{ℕ, suc, _+_, _-_, _≤_, _<_}
 use native.Mathlib.Omega.{arith}
 use borrow.Author.Tests.{eqb-true}
 use lib.Dec.{eqb}
 use lib.ListN.{length, take, drop, getD, drop-of-length-le, length-drop}
 use lib.Seq.{take-suc, getD-drop}
-use Rattle.text.specs.Choice.{pick, both}
+use Rattle.text.specs.Choice.{pick}
 use Rattle.text.proofs.Laws.{next, both-true}
 use Rattle.line.specs.Line.{Line, line, lines, endsLine, physicalAfter, linesFrom, LineEnds}
 

@@ -1,4 +1,3 @@
-pub mod PartLaws
 pub mod SpanLaws
 pub mod NameLaws
 pub mod TimeoutLaws

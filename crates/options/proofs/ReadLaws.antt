@@ -32,7 +32,7 @@ use Rattle.options.specs.Read.{Setting, setId, setAuth, setTimeout, setN
 use Rattle.options.specs.Arguments.{patternAt}
 use Rattle.options.specs.declared.name.OptionName.{OptionName}
 use Rattle.options.specs.Values.{timeoutRead, spanIn, nameIn}
-use Rattle.options.proofs.PartLaws.{part-found, part-missing}
+use Rattle.text.proofs.Lists.{parted-found, parted-missing}
 use mir.Syntax.{w32}
 use mir.Val.{SFits, toZ, ofZ}
 use mir.ValLaws.{toZ-ofZ}
@@ -161,9 +161,9 @@ module _ (t : List ℕ) (at : ℕ) (r : Range) {x : Shape} (e : x ≡ shapeOf Pl
 module _ (global : Bool) (t : List ℕ) where
   pub option-none : findByte 61 0 t ≡ Missing → none ≡ optionOf global t
   unfolding optionOf
-  option-none e = rw (part-missing 61 t e)
+  option-none e = rw (parted-missing 61 t e)
 
   pub option-named : {i : ℕ} {x k : OptionName} {r : Option (Reading Setting)}
       → findByte 61 0 t ≡ At i → nameIn x ≡ nameOf global (take i t) → x ≡ k → r ≡ named (nameIn k) (drop (i + 1) t) → r ≡ optionOf global t
   unfolding optionOf
-  option-named {i} {x} {k} e n q h = rw (part-found 61 t i e, ← n, q) h
+  option-named {i} {x} {k} e n q h = rw (parted-found 61 t i e, ← n, q) h

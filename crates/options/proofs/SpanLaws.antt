@@ -17,7 +17,7 @@ use Rattle.options.specs.Read.{span, rangeOf}
 use Rattle.options.specs.Values.{spanIn}
 use Rattle.options.specs.declared.span.Span.{Span}
 use Rattle.options.specs.declared.span.Span.the-variants.{Nothing, Between}
-use Rattle.options.proofs.PartLaws.{part-found, part-missing}
+use Rattle.text.proofs.Lists.{parted-found, parted-missing}
 use Rattle.text.specs.declared.slice.Found.the-variants.{At, Nothing as Missing}
 
 module _ (least most m n : ℕ) where
@@ -46,11 +46,11 @@ module _ (least most : ℕ) (x y : Number) where
 module _ (least most : ℕ) (s : List ℕ) {r : Option Range} where
   pub range-one : findByte 45 0 s ≡ Missing → r ≡ span least most (numberOf s) (numberOf s) → r ≡ rangeOf least most s
   unfolding rangeOf
-  range-one p e = rw (part-missing 45 s p) e
+  range-one p e = rw (parted-missing 45 s p) e
 
   pub range-two : {i : ℕ} → findByte 45 0 s ≡ At i → r ≡ span least most (numberOf (take i s)) (numberOf (take (length s - (i + 1)) (drop (i + 1) s))) → r ≡ rangeOf least most s
   unfolding rangeOf
-  range-two {i} p e = rw (part-found 45 s i p) (e ∙ rw (part-rest (i + 1) s))
+  range-two {i} p e = rw (parted-found 45 s i p) (e ∙ rw (part-rest (i + 1) s))
 
 -- how many arguments are allowed
 module _ {r : Span} where

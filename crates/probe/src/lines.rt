@@ -36,9 +36,9 @@ impl Progress {
     }
 }
 
-// Writes out the waiting answers where they take up half of their buffer, and says how many still wait.
+// Writes out the waiting answers where they take up a tenth of their buffer; the bytes that still wait.
 fn make_room(out: &[u8], waiting: usize) -> usize {
-    if waiting < out.len() / 2 {
+    if waiting < out.len() / 10 {
         return waiting;
     }
     io::write_all(STDOUT_FILENO, part(out, 0, waiting));
@@ -46,7 +46,13 @@ fn make_room(out: &[u8], waiting: usize) -> usize {
 }
 
 // The answer to the line that ends here; the place after it.
-fn answer_at(line: &[u8], bytes: &mut [u8], out: &mut [u8], from: usize, progress: Progress) -> usize {
+fn answer_at(
+    line: &[u8],
+    bytes: &mut [u8],
+    out: &mut [u8],
+    from: usize,
+    progress: Progress,
+) -> usize {
     if progress.long {
         return put(out, from, b"bad line");
     }
@@ -84,14 +90,26 @@ fn add_byte(line: &mut [u8], progress: Progress, b: u8) -> Progress {
     }
 }
 
-fn take_byte(b: u8, line: &mut [u8], bytes: &mut [u8], out: &mut [u8], progress: Progress) -> Progress {
+fn take_byte(
+    b: u8,
+    line: &mut [u8],
+    bytes: &mut [u8],
+    out: &mut [u8],
+    progress: Progress,
+) -> Progress {
     if b == b'\n' {
         return end_line(line, bytes, out, progress);
     }
     add_byte(line, progress, b)
 }
 
-pub fn take_block(block: &[u8], line: &mut [u8], bytes: &mut [u8], out: &mut [u8], before: Progress) -> Progress {
+pub fn take_block(
+    block: &[u8],
+    line: &mut [u8],
+    bytes: &mut [u8],
+    out: &mut [u8],
+    before: Progress,
+) -> Progress {
     let mut progress = before;
     let mut i = 0;
     while i < block.len() {

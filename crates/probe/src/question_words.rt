@@ -9,7 +9,6 @@ use super::output::put_bytes;
 use super::output::put_number;
 use super::output::yes_or_no;
 use super::words::Words;
-use super::words::part;
 use question::Age;
 use question::LastAuthentication;
 use question::WeekMinute;
@@ -27,54 +26,70 @@ fn week_minute(v: u64) -> WeekMinute {
     WeekMinute(65535)
 }
 
+fn put_counts(out: &mut [u8], n: usize, groups: &[u8], arguments: &[u8]) -> usize {
+    let word = put(out, n, b"good ");
+    let first = put_number(out, word, string_count(groups));
+    let space = put(out, first, b" ");
+    put_number(out, space, string_count(arguments))
+}
+
+// A question of these words, at this minute.
+fn put_question(words: Words, minute: WeekMinute, bytes: &[u8], out: &mut [u8], n: usize) -> usize {
+    let command = words.bytes(1, bytes);
+    let user = words.bytes(2, bytes);
+    let groups = words.bytes(3, bytes);
+    let host = words.bytes(4, bytes);
+    let arguments = words.bytes(6, bytes);
+    if question_is_good(command, user, groups, host, minute, arguments) {
+        return put_counts(out, n, groups, arguments);
+    }
+    put(out, n, b"10")
+}
+
+// Whether all words but the minute stand for bytes.
+fn is_question(words: Words) -> bool {
+    if !words.is_plain(1) {
+        return false;
+    }
+    if !words.is_plain(2) {
+        return false;
+    }
+    if !words.is_plain(3) {
+        return false;
+    }
+    if !words.is_plain(4) {
+        return false;
+    }
+    words.is_plain(6)
+}
+
 // `question COMMAND USER GROUPS HOST MINUTE ARGS`: `good` with the numbers of groups and of arguments, or 10.
 fn question(line: &[u8], words: Words, bytes: &[u8], out: &mut [u8], n: usize) -> Answer {
-    let command = words.word[1];
-    let user = words.word[2];
-    let groups = words.word[3];
-    let host = words.word[4];
-    let time = words.word[5];
-    let arguments = words.word[6];
-    if !(command.good && user.good && groups.good && host.good && arguments.good) {
+    if !is_question(words) {
         return Answer::BadLine;
     }
-    match read_unsigned(part(line, time.start, time.end)) {
-        Unsigned::Malformed => Answer::BadLine,
-        Unsigned::Value(v) => {
-            let g = part(bytes, groups.from, groups.to);
-            let a = part(bytes, arguments.from, arguments.to);
-            let c = part(bytes, command.from, command.to);
-            let u = part(bytes, user.from, user.to);
-            let h = part(bytes, host.from, host.to);
-            if !question_is_good(c, u, g, h, week_minute(v), a) {
-                return Answer::To(put(out, n, b"10"));
-            }
-            let word = put(out, n, b"good ");
-            let first = put_number(out, word, string_count(g));
-            let space = put(out, first, b" ");
-            Answer::To(put_number(out, space, string_count(a)))
-        }
+    let Unsigned::Value(v) = read_unsigned(words.written(5, line)) else {
+        return Answer::BadLine;
+    };
+    Answer::To(put_question(words, week_minute(v), bytes, out, n))
+}
+
+fn put_item(list: &[u8], i: usize, out: &mut [u8], n: usize) -> usize {
+    if i >= string_count(list) {
+        return put(out, n, b"none");
     }
+    put_bytes(out, n, string_at(list, i))
 }
 
 // `item LIST I`: the I-th string of the list, or `none`.
 fn item(line: &[u8], words: Words, bytes: &[u8], out: &mut [u8], n: usize) -> Answer {
-    let list = words.word[1];
-    let index = words.word[2];
-    if !list.good {
+    if !words.is_plain(1) {
         return Answer::BadLine;
     }
-    match read_unsigned(part(line, index.start, index.end)) {
-        Unsigned::Malformed => Answer::BadLine,
-        Unsigned::Value(v) => {
-            let strings = part(bytes, list.from, list.to);
-            let i = v as usize;
-            if i >= string_count(strings) {
-                return Answer::To(put(out, n, b"none"));
-            }
-            Answer::To(put_bytes(out, n, string_at(strings, i)))
-        }
-    }
+    let Unsigned::Value(i) = read_unsigned(words.written(2, line)) else {
+        return Answer::BadLine;
+    };
+    Answer::To(put_item(words.bytes(1, bytes), i as usize, out, n))
 }
 
 enum Timeout {
@@ -108,47 +123,44 @@ fn last_of(s: &[u8]) -> Last {
     }
 }
 
+enum Auth {
+    Is(bool),
+    Malformed,
+}
+
+fn auth_of(s: &[u8]) -> Auth {
+    if equal(s, b"y") {
+        return Auth::Is(true);
+    }
+    if equal(s, b"n") {
+        return Auth::Is(false);
+    }
+    Auth::Malformed
+}
+
 // `password AUTH TIMEOUT AGE`: whether one is needed.
 fn password(line: &[u8], words: Words, out: &mut [u8], n: usize) -> Answer {
-    let auth = words.word[1];
-    let timeout = words.word[2];
-    let age = words.word[3];
-    let is_set = equal(part(line, auth.start, auth.end), b"y");
-    if !is_set {
-        if !equal(part(line, auth.start, auth.end), b"n") {
-            return Answer::BadLine;
-        }
-    }
-    match timeout_of(part(line, timeout.start, timeout.end)) {
-        Timeout::Malformed => Answer::BadLine,
-        Timeout::Value(t) => match last_of(part(line, age.start, age.end)) {
-            Last::Malformed => Answer::BadLine,
-            Last::Value(last) => yes_or_no(out, n, password_needed(is_set, t, last)),
-        },
-    }
+    let Auth::Is(auth) = auth_of(words.written(1, line)) else {
+        return Answer::BadLine;
+    };
+    let Timeout::Value(timeout) = timeout_of(words.written(2, line)) else {
+        return Answer::BadLine;
+    };
+    let Last::Value(last) = last_of(words.written(3, line)) else {
+        return Answer::BadLine;
+    };
+    yes_or_no(out, n, password_needed(auth, timeout, last))
 }
 
 pub fn answer(line: &[u8], words: Words, bytes: &[u8], out: &mut [u8], n: usize) -> Answer {
-    let first = words.word[0];
-    let word = part(line, first.start, first.end);
-    let count = words.count;
-    if equal(word, b"question") {
-        if count == 7 {
-            return question(line, words, bytes, out, n);
-        }
-        return Answer::BadLine;
+    if words.ask(line, b"question", 7) {
+        return question(line, words, bytes, out, n);
     }
-    if equal(word, b"item") {
-        if count == 3 {
-            return item(line, words, bytes, out, n);
-        }
-        return Answer::BadLine;
+    if words.ask(line, b"item", 3) {
+        return item(line, words, bytes, out, n);
     }
-    if equal(word, b"password") {
-        if count == 4 {
-            return password(line, words, out, n);
-        }
-        return Answer::BadLine;
+    if words.ask(line, b"password", 4) {
+        return password(line, words, out, n);
     }
     Answer::Unknown
 }

@@ -5,7 +5,6 @@ use super::output::Answer;
 use super::output::put;
 use super::output::yes_or_no;
 use super::words::Words;
-use super::words::part;
 use question::WeekMinute;
 use text::slice::equal;
 use times::item::ItemAnswer;
@@ -25,15 +24,13 @@ fn item(s: &[u8], minute: u64, out: &mut [u8], n: usize) -> Answer {
 
 // `time ITEM MINUTE`: whether the item matches the minute of the week, or `bad`.
 fn time(line: &[u8], words: Words, bytes: &[u8], out: &mut [u8], n: usize) -> Answer {
-    let text = words.word[1];
-    let minute = words.word[2];
-    if !text.good {
+    if !words.is_plain(1) {
         return Answer::BadLine;
     }
-    match read_unsigned(part(line, minute.start, minute.end)) {
-        Unsigned::Malformed => Answer::BadLine,
-        Unsigned::Value(m) => item(part(bytes, text.from, text.to), m, out, n),
-    }
+    let Unsigned::Value(m) = read_unsigned(words.written(2, line)) else {
+        return Answer::BadLine;
+    };
+    item(words.bytes(1, bytes), m, out, n)
 }
 
 // What an item of a rule is.
@@ -69,8 +66,7 @@ fn rule_of(line: &[u8], words: Words) -> Rule {
     let mut rule = TimeRule::new();
     let mut i = 1;
     while i < count {
-        let w = words.word[i];
-        let Verdict::Is(negated, matches) = verdict_of(part(line, w.start, w.end)) else {
+        let Verdict::Is(negated, matches) = verdict_of(words.written(i, line)) else {
             return Rule::Malformed;
         };
         rule = rule.item(negated, matches);
@@ -91,15 +87,10 @@ fn time_rule(line: &[u8], words: Words, out: &mut [u8], n: usize) -> Answer {
 }
 
 pub fn answer(line: &[u8], words: Words, bytes: &[u8], out: &mut [u8], n: usize) -> Answer {
-    let first = words.word[0];
-    let word = part(line, first.start, first.end);
-    if equal(word, b"time") {
-        if words.count == 3 {
-            return time(line, words, bytes, out, n);
-        }
-        return Answer::BadLine;
+    if words.ask(line, b"time", 3) {
+        return time(line, words, bytes, out, n);
     }
-    if equal(word, b"timerule") {
+    if words.ask(line, b"timerule", words.count) {
         return time_rule(line, words, out, n);
     }
     Answer::Unknown

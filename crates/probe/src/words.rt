@@ -13,6 +13,16 @@ pub struct Word {
     pub named: bool,
 }
 
+impl Word {
+    // Whether it stands for bytes and has no `=` behind it.
+    pub fn is_plain(self) -> bool {
+        if self.named {
+            return false;
+        }
+        self.good
+    }
+}
+
 pub struct Words {
     pub word: [Word; 160],
     pub count: usize,
@@ -25,6 +35,52 @@ pub struct Words {
 impl Words {
     // A line of more words is malformed.
     pub const MOST: usize = 160;
+
+    // A word as it stands in the line.
+    pub fn written(self, i: usize, line: &[u8]) -> &[u8] {
+        if i < Words::MOST {
+            let w = self.word[i];
+            return part(line, w.start, w.end);
+        }
+        &line[0..0]
+    }
+
+    // The bytes that a word stands for.
+    pub fn bytes(self, i: usize, bytes: &[u8]) -> &[u8] {
+        if i < Words::MOST {
+            let w = self.word[i];
+            return part(bytes, w.from, w.to);
+        }
+        &bytes[0..0]
+    }
+
+    // Whether a word stands for bytes, and no `=` stands behind it.
+    pub fn is_plain(self, i: usize) -> bool {
+        if i < Words::MOST {
+            let w = self.word[i];
+            return w.is_plain();
+        }
+        false
+    }
+
+    // Whether the line asks for a function by its word, with so many words in all.
+    pub fn ask(self, line: &[u8], name: &[u8], count: usize) -> bool {
+        if self.count != count {
+            return false;
+        }
+        self.is_word(0, line, name)
+    }
+
+    // Whether a word stands so in the line, with no `=` behind it.
+    pub fn is_word(self, i: usize, line: &[u8], name: &[u8]) -> bool {
+        if i < Words::MOST {
+            let w = self.word[i];
+            if !w.named {
+                return text::slice::equal(part(line, w.start, w.end), name);
+            }
+        }
+        false
+    }
 
     // How many of the array are words.
     pub fn number(self) -> usize

@@ -1,13 +1,8 @@
 use mathlib.Core.Path.{_≡_}
 use borrow.Author.Needs.{needs}
-use Prim.Native.Nat.{_≤_, _-_, _+_}
 use lib.ListN.{length}
 use Rattle.probe.proofs.read_all.Statement.{statement}
 use Rattle.probe.proofs.read_all.Tie as tie
-use Rattle.probe.proofs.read_all.Reads as reads
-use Rattle.probe.proofs.read_all.Lts as lts
-use Rattle.probe.proofs.lines.Progress.new.Reads as new-reads
-use Rattle.probe.proofs.read_some.Reads as read-some-reads
 
 abbrev Inv-loop : tie.InvT-loop
 Inv-loop line₀ bytes₀ out₀ progress₀ turns₀ line bytes out progress turns = (length line ≡ length line₀) × (length bytes ≡ length bytes₀) × (length out ≡ length out₀)
@@ -15,59 +10,45 @@ Inv-loop line₀ bytes₀ out₀ progress₀ turns₀ line bytes out progress tu
 abbrev μ-loop : tie.MeasureT-loop
 μ-loop line₀ bytes₀ out₀ progress₀ turns₀ line bytes out progress turns = turns
 
--- src/main.rt:24:9
 new-requires : tie.Need-new-requires Inv-loop μ-loop
 new-requires c κs = search needs
 
--- src/main.rt:26:5
 loop-holds : tie.Need-loop-holds Inv-loop μ-loop
 loop-holds c = search needs
 
--- src/main.rt:27:9
 read-some-requires : tie.Need-read-some-requires Inv-loop μ-loop
 read-some-requires c κs = search needs
 
--- src/main.rt:28:9
 sub-turns : tie.Need-sub-turns Inv-loop μ-loop
 sub-turns c = search needs
 
--- src/main.rt:26:5
 loop-less : tie.Need-loop-less Inv-loop μ-loop
 loop-less c = search needs
 
--- src/main.rt:26:5
 loop-again : tie.Need-loop-again Inv-loop μ-loop
 loop-again c = search needs
 
--- src/main.rt:23:1
 same-length : tie.Need-same-length Inv-loop μ-loop
 same-length c = search needs
 
--- src/main.rt:23:1
 same-length-2 : tie.Need-same-length-2 Inv-loop μ-loop
 same-length-2 c = search needs
 
--- src/main.rt:23:1
 same-length-3 : tie.Need-same-length-3 Inv-loop μ-loop
 same-length-3 c = search needs
 
--- src/main.rt:23:1
 returns : tie.Need-returns Inv-loop μ-loop
 returns c = search needs
 
--- src/main.rt:23:1
 same-length-4 : tie.Need-same-length-4 Inv-loop μ-loop
 same-length-4 c = search needs
 
--- src/main.rt:23:1
 same-length-5 : tie.Need-same-length-5 Inv-loop μ-loop
 same-length-5 c = search needs
 
--- src/main.rt:23:1
 same-length-6 : tie.Need-same-length-6 Inv-loop μ-loop
 same-length-6 c = search needs
 
--- src/main.rt:23:1
 returns-2 : tie.Need-returns-2 Inv-loop μ-loop
 returns-2 c = search needs
 

@@ -1,12 +1,9 @@
 use mathlib.Core.Path.{_≡_}
+use Prim.Native.Nat.{_≤_, _-_}
 use borrow.Author.Needs.{needs}
-use Prim.Native.Nat.{_≤_, _-_, _+_}
 use lib.ListN.{length}
 use Rattle.probe.proofs.lines.take_block.Statement.{statement}
 use Rattle.probe.proofs.lines.take_block.Tie as tie
-use Rattle.probe.proofs.lines.take_block.Reads as reads
-use Rattle.probe.proofs.lines.take_block.Lts as lts
-use Rattle.probe.proofs.lines.take_byte.Reads as take-byte-reads
 
 abbrev Inv-loop : tie.InvT-loop
 Inv-loop block line₀ bytes₀ out₀ progress₀ i₀ line bytes out progress i = (i ≤ length block) × (length line ≡ length line₀) × (length bytes ≡ length bytes₀) × (length out ≡ length out₀)
@@ -14,43 +11,33 @@ Inv-loop block line₀ bytes₀ out₀ progress₀ i₀ line bytes out progress 
 abbrev μ-loop : tie.MeasureT-loop
 μ-loop block line₀ bytes₀ out₀ progress₀ i₀ line bytes out progress i = length block - i
 
--- src/lines.rt:97:5
 loop-holds : tie.Need-loop-holds Inv-loop μ-loop
 loop-holds c = search needs
 
--- src/lines.rt:98:30
 shared-slice-read-take-byte : tie.Need-shared-slice-read-take-byte Inv-loop μ-loop
 shared-slice-read-take-byte c = search needs
 
--- src/lines.rt:98:9
 take-byte-requires : tie.Need-take-byte-requires Inv-loop μ-loop
 take-byte-requires c κs = search needs
 
--- src/lines.rt:99:9
 add-i : tie.Need-add-i Inv-loop μ-loop
 add-i c = search needs
 
--- src/lines.rt:97:5
 loop-less : tie.Need-loop-less Inv-loop μ-loop
 loop-less c = search needs
 
--- src/lines.rt:97:5
 loop-again : tie.Need-loop-again Inv-loop μ-loop
 loop-again c = search needs
 
--- src/lines.rt:94:1
 same-length : tie.Need-same-length Inv-loop μ-loop
 same-length c = search needs
 
--- src/lines.rt:94:1
 same-length-2 : tie.Need-same-length-2 Inv-loop μ-loop
 same-length-2 c = search needs
 
--- src/lines.rt:94:1
 same-length-3 : tie.Need-same-length-3 Inv-loop μ-loop
 same-length-3 c = search needs
 
--- src/lines.rt:94:1
 returns : tie.Need-returns Inv-loop μ-loop
 returns c = search needs
 

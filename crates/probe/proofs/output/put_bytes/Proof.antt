@@ -1,13 +1,9 @@
 use mathlib.Core.Path.{_≡_}
+use Prim.Native.Nat.{_≤_, _-_}
 use borrow.Author.Needs.{needs}
-use Prim.Native.Nat.{_≤_, _-_, _+_}
 use lib.ListN.{length}
 use Rattle.probe.proofs.output.put_bytes.Statement.{statement}
 use Rattle.probe.proofs.output.put_bytes.Tie as tie
-use Rattle.probe.proofs.output.put_bytes.Reads as reads
-use Rattle.probe.proofs.output.put_bytes.Lts as lts
-use Rattle.probe.proofs.output.put.Reads as put-reads
-use Rattle.probe.proofs.output.put_digits.Reads as put-digits-reads
 
 abbrev Inv-loop : tie.InvT-loop
 Inv-loop out₀ n s m₀ i₀ out m i = (i ≤ length s) × (length out ≡ length out₀)
@@ -15,51 +11,39 @@ Inv-loop out₀ n s m₀ i₀ out m i = (i ≤ length s) × (length out ≡ leng
 abbrev μ-loop : tie.MeasureT-loop
 μ-loop out₀ n s m₀ i₀ out m i = length s - i
 
--- src/output.rt:39:28
 slice-aggregate-put : tie.Need-slice-aggregate-put Inv-loop μ-loop
 slice-aggregate-put c = search needs
 
--- src/output.rt:39:9
 put-requires : tie.Need-put-requires Inv-loop μ-loop
 put-requires c κs = search needs
 
--- src/output.rt:39:9
 same-length : tie.Need-same-length Inv-loop μ-loop
 same-length c = search needs
 
--- src/output.rt:39:9
 returns : tie.Need-returns Inv-loop μ-loop
 returns c = search needs
 
--- src/output.rt:43:5
 loop-holds : tie.Need-loop-holds Inv-loop μ-loop
 loop-holds c = search needs
 
--- src/output.rt:44:32
 shared-slice-read-put-digits : tie.Need-shared-slice-read-put-digits Inv-loop μ-loop
 shared-slice-read-put-digits c = search needs
 
--- src/output.rt:44:9
 put-digits-requires : tie.Need-put-digits-requires Inv-loop μ-loop
 put-digits-requires c κs = search needs
 
--- src/output.rt:45:9
 add-i : tie.Need-add-i Inv-loop μ-loop
 add-i c = search needs
 
--- src/output.rt:43:5
 loop-less : tie.Need-loop-less Inv-loop μ-loop
 loop-less c = search needs
 
--- src/output.rt:43:5
 loop-again : tie.Need-loop-again Inv-loop μ-loop
 loop-again c = search needs
 
--- src/output.rt:37:1
 same-length-2 : tie.Need-same-length-2 Inv-loop μ-loop
 same-length-2 c = search needs
 
--- src/output.rt:37:1
 returns-2 : tie.Need-returns-2 Inv-loop μ-loop
 returns-2 c = search needs
 

@@ -1,11 +1,8 @@
+use Prim.Native.Nat.{_-_}
 use borrow.Author.Needs.{needs}
-use Prim.Native.Nat.{_≤_, _-_, _+_}
 use lib.ListN.{length}
 use Rattle.probe.proofs.words.word_end.Statement.{statement}
 use Rattle.probe.proofs.words.word_end.Tie as tie
-use Rattle.probe.proofs.words.word_end.Reads as reads
-use Rattle.probe.proofs.words.word_end.Lts as lts
-use Rattle.probe.proofs.words.ends_word.Reads as ends-word-reads
 
 abbrev Inv-loop : tie.InvT-loop
 Inv-loop line start i₀ i = Unit {0}
@@ -13,35 +10,27 @@ Inv-loop line start i₀ i = Unit {0}
 abbrev μ-loop : tie.MeasureT-loop
 μ-loop line start i₀ i = length line - i
 
--- src/words.rt:46:5
 loop-holds : tie.Need-loop-holds Inv-loop μ-loop
 loop-holds c = search needs
 
--- src/words.rt:47:22
 shared-slice-read-ends-word : tie.Need-shared-slice-read-ends-word Inv-loop μ-loop
 shared-slice-read-ends-word c = search needs
 
--- src/words.rt:47:12
 ends-word-requires : tie.Need-ends-word-requires Inv-loop μ-loop
 ends-word-requires c κs = search needs
 
--- src/words.rt:48:13
 returns : tie.Need-returns Inv-loop μ-loop
 returns c = search needs
 
--- src/words.rt:50:9
 add-i : tie.Need-add-i Inv-loop μ-loop
 add-i c = search needs
 
--- src/words.rt:46:5
 loop-less : tie.Need-loop-less Inv-loop μ-loop
 loop-less c = search needs
 
--- src/words.rt:46:5
 loop-again : tie.Need-loop-again Inv-loop μ-loop
 loop-again c = search needs
 
--- src/words.rt:44:1
 returns-2 : tie.Need-returns-2 Inv-loop μ-loop
 returns-2 c = search needs
 

@@ -1,0 +1,45 @@
+use Prim.Native.Nat.{_≤_, _-_}
+use borrow.Author.Needs.{needs}
+use Rattle.probe.proofs.output.unsigned_of.Statement.{statement}
+use Rattle.probe.proofs.output.unsigned_of.Tie as tie
+
+abbrev Inv-loop : tie.InvT-loop
+Inv-loop v k₀ k = k ≤ 65536
+
+abbrev μ-loop : tie.MeasureT-loop
+μ-loop v k₀ k = 65536 - k
+
+loop-holds : tie.Need-loop-holds Inv-loop μ-loop
+loop-holds c = search needs
+
+is-same-requires : tie.Need-is-same-requires Inv-loop μ-loop
+is-same-requires c κs = search needs
+
+returns : tie.Need-returns Inv-loop μ-loop
+returns c = search needs
+
+add-k : tie.Need-add-k Inv-loop μ-loop
+add-k c = search needs
+
+loop-less : tie.Need-loop-less Inv-loop μ-loop
+loop-less c = search needs
+
+loop-again : tie.Need-loop-again Inv-loop μ-loop
+loop-again c = search needs
+
+returns-2 : tie.Need-returns-2 Inv-loop μ-loop
+returns-2 c = search needs
+
+pub unsigned-of-spec : {M : Type 1} → statement M
+unsigned-of-spec =
+    tie.close
+    (tie.spec
+    Inv-loop
+    μ-loop
+    loop-holds
+    is-same-requires
+    returns
+    add-k
+    loop-less
+    loop-again
+    returns-2)
