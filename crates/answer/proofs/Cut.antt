@@ -61,12 +61,15 @@ asked t a b e = room (ltb (length b) 2048) refl e
     bytes : (q : Question) → ltb (length b) 2048 ≡ false → asks a ≡ some q → ltb 32768 (length t) ≡ false → (p : Option ℕ) → refusedByte t ≡ p → isDecision (readBytes t q b p .answer) ≡ true → Asks t a b
     bytes q r g s none h f = record { question = q; room = r; good = g; size = s; bytes = h }
     bytes q r g s (some p) h f = no-decision f
+
     size : (q : Question) → ltb (length b) 2048 ≡ false → asks a ≡ some q → (x : Bool) → ltb 32768 (length t) ≡ x → isDecision (pick x (result LongTable b) (readBytes t q b (refusedByte t)) .answer) ≡ true → Asks t a b
     size q r g true h f = no-decision f
     size q r g false h f = bytes q r g h (refusedByte t) refl f
+
     good : ltb (length b) 2048 ≡ false → (o : Option Question) → asks a ≡ o → isDecision (readTable t b o .answer) ≡ true → Asks t a b
     good r none h f = no-decision f
     good r (some q) h f = size q r h (ltb 32768 (length t)) refl f
+
     room : (x : Bool) → ltb (length b) 2048 ≡ x → isDecision (pick x (result SmallBuffer b) (readTable t b (asks a)) .answer) ≡ true → Asks t a b
     room true h f = no-decision f
     room false h f = good h (asks a) refl f
@@ -141,9 +144,9 @@ module _ (t : List ℕ) (a : Asked) (b : List ℕ) (n : ℕ) (l : n ≤ length t
 
   said : (d : Decision) → given t ≡ decided (made d) → endsAt t n ≡ true → settled b (given (take n t)) ≡ expected true (decided (made d))
   said d e x = elim (decLe (d .end) n) [
-      | yes h ↦ rw (yet d e, le-ltb n (d .end) h) (ap (settled b) (cut .after d e (ends-at t n x) h ∙ e))
-      | no h ↦ let k : n < d .end = omega arith in rw (yet d e, lt-ltb n (d .end) k) (ap (settled b) (cut .before d e (ends-at t n x) k))
-    ]
+    | yes h ↦ rw (yet d e, le-ltb n (d .end) h) (ap (settled b) (cut .after d e (ends-at t n x) h ∙ e))
+    | no h ↦ let k : n < d .end = omega arith in rw (yet d e, lt-ltb n (d .end) k) (ap (settled b) (cut .before d e (ends-at t n x) k))
+  ]
 
   by-end : (v : Verdict Decision) → given t ≡ decided v → (x : Bool) → endsAt t n ≡ x → settled b (given (take n t)) ≡ expected x (decided v)
   by-end v e false x = within v e x

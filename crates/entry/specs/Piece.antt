@@ -140,7 +140,7 @@ conditionOf q negated equals c = elim (c .prefix) [
   | user ↦ userMarks (userApplies q) negated (c .pattern)
   | group ↦ userMarks (groupApplies q) negated (c .pattern)
   | time ↦ timeMarks (q .minute) negated (c .pattern)
-  ]
+]
 
 -- an option, or else a condition
 abbrev pub otherOr : Question → List ℕ → Option (Reading Setting) → Reading Piece
