@@ -2,13 +2,13 @@
 use super::Kind;
 use super::Pattern;
 use super::Shape;
+use super::braces::Reading;
+use super::braces::list;
+use super::braces::pattern;
 use super::mark::Mark;
 use super::mark::mark_of;
 use super::piece::Piece;
 use super::piece::piece_end;
-use super::reader::Reading;
-use super::reader::list;
-use super::reader::pattern;
 use super::reader::read_pattern;
 use text::buffer::Filled;
 use text::buffer::put_all;

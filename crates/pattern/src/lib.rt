@@ -4,11 +4,12 @@ ghost use lib.Dec.{leb};
 ghost use Rattle.text.specs.Choice.{both};
 
 pub mod alternative; // the name and the host of one alternative
+mod braces; // the pattern reader and the brace-list reader
 pub mod expand; // the brace-free expansions, one at a time
 mod mark; // what a byte of a pattern means
 pub mod matcher; // what a pattern matches
 mod piece; // one piece of a pattern: a plain byte, an escaped byte or a set
-pub mod reader; // the pattern reader and the brace-list reader
+pub mod reader; // whether a pattern is well formed, and how large it is
 mod set; // the bytes between brackets
 
 // Where a pattern stands: this decides what its top-level commas, sets and escapes mean.
