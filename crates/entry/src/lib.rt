@@ -1,4 +1,9 @@
 // Entries: their conditions, command patterns and path, and what the deciding one answers.
 
-// The limit of an entry's answer.
+// The path of the command to run.
 pub struct Path;
+
+impl Path {
+    // The most bytes, each `*` replaced.
+    pub const BYTES: usize = 1024;
+}
