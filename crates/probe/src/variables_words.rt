@@ -122,7 +122,8 @@ fn put_text(
     n: usize,
 ) -> usize {
     let mut text = [0u8; 1024];
-    match field_text(vars, user, host, field, &mut text) {
+    let count = vars.count;
+    match field_text(&vars.bytes, &vars.sizes, count, user, host, field, &mut text) {
         FieldText::Text(k) => put_bytes(out, n, first_bytes(&text, k)),
         FieldText::BadVariable => put(out, n, b"bad"),
         FieldText::Long => put(out, n, b"long"),
@@ -163,7 +164,8 @@ fn put_known(
     n: usize,
 ) -> usize {
     if !is_built_in(name) {
-        return put_found(vars.lookup(name), out, n);
+        let count = vars.count;
+        return put_found(Variables::lookup(&vars.bytes, &vars.sizes, count, name), out, n);
     }
     let mut field = [0u8; 16];
     let dollar = put(&mut field, 0, b"$");
