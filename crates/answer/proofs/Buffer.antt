@@ -1,14 +1,13 @@
 -- What an answer leaves of the buffer, and that later lines never change a decision. Assumes nothing.
 use Prim.Native.Nat.{ℕ, _≤_}
 use mathlib.Core.Path.{_≡_, refl, sym, ap, _∙_}
-use mathlib.Core.Bool.{Bool, true, false}
+use mathlib.Core.Bool.{Bool, true, false, cond}
 use mathlib.Core.List.{List, [], _∷_, _++_}
 use mathlib.Core.Option.{Option, none, some}
 use native.Mathlib.Omega.{arith}
 use lib.Dec.{eqb, leb, ltb}
 use lib.ListN.{length, take, drop, length-append}
 use lib.Seq.{take-at}
-use Rattle.text.specs.Choice.{pick}
 use Rattle.fault.specs.declared.Cause.{Cause}
 use Rattle.question.specs.Question.{Question}
 use Rattle.line.specs.Line.{endsAt}
@@ -67,7 +66,7 @@ unfolding toldOf
 left-table t b none = refl
 left-table t b (some q) = go (ltb 32768 (length t)) (left-bytes t q b (refusedByte t))
   where
-    go : (x : Bool) → Left b (readBytes t q b (refusedByte t)) → Left b (pick x (result LongTable b) (readBytes t q b (refusedByte t)))
+    go : (x : Bool) → Left b (readBytes t q b (refusedByte t)) → Left b (cond x (result LongTable b) (readBytes t q b (refusedByte t)))
     go true h = refl
     go false h = h
 
@@ -76,7 +75,7 @@ pub buffer-left : (t : List ℕ) (a : Asked) (b : List ℕ) → Left b (answerOf
 unfolding answerOf toldOf
 buffer-left t a b = go (ltb (length b) 2048) (left-table t b (asks a))
   where
-    go : (x : Bool) → Left b (readTable t b (asks a)) → Left b (pick x (result SmallBuffer b) (readTable t b (asks a)))
+    go : (x : Bool) → Left b (readTable t b (asks a)) → Left b (cond x (result SmallBuffer b) (readTable t b (asks a)))
     go true h = refl
     go false h = h
 
@@ -92,7 +91,7 @@ later-lines t u a b d e f =
     let h : answerOf t a b ≡ cutAnswer (t ++ u) a b (length t) = ap (λ s. answerOf s a b) (sym (take-at t u (length t) refl)) ∙ cut-safe (t ++ u) a b (length t) l f in
     sym (h ∙ go (endsAt (t ++ u) (length t)) (nothingYet (t ++ u) (length t) (answerOf (t ++ u) a b .answer)) h)
   where
-    go : (x y : Bool) → answerOf t a b ≡ pick x (pick y (result NoEntry b) (answerOf (t ++ u) a b)) (result (CutShort (cutPlace (t ++ u) (length t))) b) → pick x (pick y (result NoEntry b) (answerOf (t ++ u) a b)) (result (CutShort (cutPlace (t ++ u) (length t))) b) ≡ answerOf (t ++ u) a b
+    go : (x y : Bool) → answerOf t a b ≡ cond x (cond y (result NoEntry b) (answerOf (t ++ u) a b)) (result (CutShort (cutPlace (t ++ u) (length t))) b) → cond x (cond y (result NoEntry b) (answerOf (t ++ u) a b)) (result (CutShort (cutPlace (t ++ u) (length t))) b) ≡ answerOf (t ++ u) a b
     go true false h = refl
     go true true h = no-decision (sym e ∙ ap (λ o. eqb (toldOf (o .answer) .number) 2) h)
     go false y h = no-decision (sym (ap (λ o. isDecision (o .answer)) h) ∙ d)

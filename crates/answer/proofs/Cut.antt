@@ -1,7 +1,7 @@
 -- Demand 3: a cut table answers what the whole one says, "no entry", or 13 where the cut line begins. Assumes nothing.
 use Prim.Native.Nat.{ℕ, zero, suc, _+_, _≤_, _<_}
 use mathlib.Core.Path.{_≡_, refl, sym, ap, _∙_}
-use mathlib.Core.Bool.{Bool, true, false}
+use mathlib.Core.Bool.{Bool, true, false, cond, _||_}
 use mathlib.Core.List.{List, [], _∷_}
 use mathlib.Core.Option.{Option, none, some}
 use native.Mathlib.Omega.{arith}
@@ -9,7 +9,6 @@ use native.Mathlib.Decide.{decLe}
 use borrow.Author.Tests.{le-ltb, lt-ltb, ltb-true, ltb-false}
 use lib.Dec.{eqb, leb, ltb}
 use lib.ListN.{length, take, length-take}
-use Rattle.text.specs.Choice.{pick, either}
 use Rattle.fault.specs.declared.Cause.{Cause}
 use Rattle.fault.proofs.Numbers.{above-decisions}
 use Rattle.question.specs.Question.{Question}
@@ -35,7 +34,7 @@ cut-refused zero at t e = refl
 cut-refused (suc n) at [] e = refl
 cut-refused (suc n) at (b ∷ t) e = go (accepted b) (λ f. cut-refused n (at + 1) t f) e
   where
-    go : (x : Bool) → (refusedFrom (at + 1) t ≡ none → refusedFrom (at + 1) (take n t) ≡ none) → pick x (refusedFrom (at + 1) t) (some at) ≡ none → pick x (refusedFrom (at + 1) (take n t)) (some at) ≡ none
+    go : (x : Bool) → (refusedFrom (at + 1) t ≡ none → refusedFrom (at + 1) (take n t) ≡ none) → cond x (refusedFrom (at + 1) t) (some at) ≡ none → cond x (refusedFrom (at + 1) (take n t)) (some at) ≡ none
     go true rec f = rec f
     go false rec f = let z : _≡_ {A = ℕ} 0 1 = cc in absurd (omega arith)
 
@@ -62,7 +61,7 @@ asked t a b e = room (ltb (length b) 2048) refl e
     bytes q r g s none h f = record { question = q; room = r; good = g; size = s; bytes = h }
     bytes q r g s (some p) h f = no-decision f
 
-    size : (q : Question) → ltb (length b) 2048 ≡ false → asks a ≡ some q → (x : Bool) → ltb 32768 (length t) ≡ x → isDecision (pick x (result LongTable b) (readBytes t q b (refusedByte t)) .answer) ≡ true → Asks t a b
+    size : (q : Question) → ltb (length b) 2048 ≡ false → asks a ≡ some q → (x : Bool) → ltb 32768 (length t) ≡ x → isDecision (cond x (result LongTable b) (readBytes t q b (refusedByte t)) .answer) ≡ true → Asks t a b
     size q r g true h f = no-decision f
     size q r g false h f = bytes q r g h (refusedByte t) refl f
 
@@ -70,7 +69,7 @@ asked t a b e = room (ltb (length b) 2048) refl e
     good r none h f = no-decision f
     good r (some q) h f = size q r h (ltb 32768 (length t)) refl f
 
-    room : (x : Bool) → ltb (length b) 2048 ≡ x → isDecision (pick x (result SmallBuffer b) (readTable t b (asks a)) .answer) ≡ true → Asks t a b
+    room : (x : Bool) → ltb (length b) 2048 ≡ x → isDecision (cond x (result SmallBuffer b) (readTable t b (asks a)) .answer) ≡ true → Asks t a b
     room true h f = no-decision f
     room false h f = good h (asks a) refl f
 
@@ -117,7 +116,7 @@ module _ (t : List ℕ) (a : Asked) (b : List ℕ) (n : ℕ) (l : n ≤ length t
 
   -- what the cut table must answer, by what the whole one gives and whether a line ends at the cut
   abbrev expected : Bool → Out Cause Decision → Outcome
-  expected x o = pick x (pick (nothingYet t n (settled b o .answer)) (result NoEntry b) (settled b o)) (result (CutShort (cutPlace t n)) b)
+  expected x o = cond x (cond (nothingYet t n (settled b o .answer)) (result NoEntry b) (settled b o)) (result (CutShort (cutPlace t n)) b)
 
   cut : Cut (step (w .question)) verdict (λ d. d .end) start t n
   unfolding start verdict

@@ -1,13 +1,12 @@
 -- A decision stays, and is made at the line whose number and end it has. Assumes nothing.
 use Prim.Native.Nat.{ℕ, suc, _≤_, _<_}
 use mathlib.Core.Path.{_≡_, refl, sym, ap, _∙_}
-use mathlib.Core.Bool.{Bool, true, false}
+use mathlib.Core.Bool.{Bool, true, false, cond}
 use mathlib.Core.List.{List, [], _∷_}
 use mathlib.Core.Option.{Option, none, some}
 use native.Mathlib.Omega.{arith}
 use borrow.Author.Tests.{eq-eqb, ne-eqb}
 use lib.Dec.{eqb}
-use Rattle.text.specs.Choice.{pick}
 use Rattle.text.specs.Lists.{firstOf}
 use Rattle.fault.specs.declared.Cause.{Cause}
 use Rattle.fault.specs.Fault.{Reading, fault, value}
@@ -24,7 +23,7 @@ use Rattle.answer.specs.Meaning.{step, stepped, verdict, verdictIn}
 use Rattle.answer.specs.Cut.{endOfLine}
 
 -- a step that goes on has read its line
-stepped-go : (r : Reading State) (t : State) → stepped r ≡ go t → r ≡ value t
+stepped-go : (r : Reading Cause State) (t : State) → stepped r ≡ go t → r ≡ value t
 stepped-go (fault c) t e = let z : _≡_ {A = ℕ} 0 1 = cc in absurd (omega arith)
 stepped-go (value s) t e = cc
 
@@ -70,7 +69,7 @@ module _ (q : Question) where
       let f = first-step (step q) verdict (λ c. c .end) decides l ls s t e in
       by (f .0) (f .1) (f .2) (verdict (f .0)) refl (λ h. deciding-end (suc (l .number)) ls (f .0) t d (n .1) h (f .2) w)
     where
-      by : (u : State) → step q s l ≡ go u → run (step q) ls u ≡ ok t → (y : Verdict Decision) → verdict u ≡ y → (verdict u ≡ undecided → (suc (l .number) ≤ d .line) × (endOfLine (d .line) ls ≡ d .end)) → (k ≤ d .line) × (pick (eqb (l .number) (d .line)) (l .end) (endOfLine (d .line) ls) ≡ d .end)
+      by : (u : State) → step q s l ≡ go u → run (step q) ls u ≡ ok t → (y : Verdict Decision) → verdict u ≡ y → (verdict u ≡ undecided → (suc (l .number) ≤ d .line) × (endOfLine (d .line) ls ≡ d .end)) → (k ≤ d .line) × (cond (eqb (l .number) (d .line)) (l .end) (endOfLine (d .line) ls) ≡ d .end)
       by u p r undecided h rec =
           let x = rec h in
           let g : l .number ≡ d .line → ⊥ = λ i. omega (arith, x .0, i) in

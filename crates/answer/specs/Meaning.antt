@@ -1,12 +1,11 @@
 -- The answer to a question from a table, and the buffer after it: the order of refusals, all control lines, then the decision.
 use Prim.Native.Nat.{ℕ}
-use mathlib.Core.Bool.{Bool, true, false}
+use mathlib.Core.Bool.{Bool, true, false, cond}
 use mathlib.Core.List.{List, [], _∷_, _++_}
 use mathlib.Core.Option.{Option, none, some}
 use lib.IntN.{ℤ}
 use lib.Dec.{ltb}
 use lib.ListN.{length, drop}
-use Rattle.text.specs.Choice.{pick}
 use Rattle.fault.specs.Fault.{Reading, fault, value}
 use Rattle.fault.specs.declared.Cause.{Cause}
 use Rattle.question.specs.declared.WeekMinute.{WeekMinute}
@@ -88,7 +87,7 @@ settled b (decided undecided) = result NoEntry b
 settled b (decided (made d)) = resolved b (d .line) (d .verdict)
 
 -- one control line as a step of the fold over all of them
-abbrev pub stepped : Reading State → Step Cause State
+abbrev pub stepped : Reading Cause State → Step Cause State
 stepped (fault c) = stop c
 stepped (value s) = go s
 
@@ -110,11 +109,11 @@ readBytes t q b none = settled b (outcome (step q) verdict start t)
 -- 10, then 11
 abbrev pub readTable : List ℕ → List ℕ → Option Question → Outcome
 readTable t b none = result MalformedQuestion b
-readTable t b (some q) = pick (ltb 32768 (length t)) (result LongTable b) (readBytes t q b (refusedByte t))
+readTable t b (some q) = cond (ltb 32768 (length t)) (result LongTable b) (readBytes t q b (refusedByte t))
 
 abbrev pub asks : Asked → Option Question
 asks a = questionOf (a .command) (a .user) (a .groups) (a .host) (a .minute) (a .age) (a .args)
 
 -- order: 17, 10, 11, 12, then control lines, the first faulty one deciding; only then the decision
 unfoldable pub answerOf : List ℕ → Asked → List ℕ → Outcome
-answerOf t a b = pick (ltb (length b) 2048) (result SmallBuffer b) (readTable t b (asks a))
+answerOf t a b = cond (ltb (length b) 2048) (result SmallBuffer b) (readTable t b (asks a))

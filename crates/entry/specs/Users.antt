@@ -1,9 +1,8 @@
 -- Users, groups and hosts: which alternatives apply, and what they decide together (01, "Entries").
 use Prim.Native.Nat.{ℕ}
-use mathlib.Core.Bool.{Bool, true, false, not}
+use mathlib.Core.Bool.{Bool, true, false, not, cond, _&&_}
 use mathlib.Core.List.{List, [], _∷_}
 use mathlib.Core.Option.{Option, none, some}
-use Rattle.text.specs.Choice.{pick, both}
 use Rattle.text.specs.Bytes.{bytes}
 use Rattle.text.specs.Lists.{any}
 use Rattle.text.specs.Slice.{same}
@@ -23,16 +22,16 @@ onHost h (some p) = matches p h
 
 -- the user matches, and the host
 unfoldable pub userApplies : Question → Alternative → Bool
-userApplies q a = both (matches (a .name) (q .user)) (onHost (q .host) (a .host))
+userApplies q a = matches (a .name) (q .user) && onHost (q .host) (a .host)
 
 -- some group matches, and the host
 unfoldable pub groupApplies : Question → Alternative → Bool
-groupApplies q a = both (any (matches (a .name)) (q .groups)) (onHost (q .host) (a .host))
+groupApplies q a = any (matches (a .name)) (q .groups) && onHost (q .host) (a .host)
 
 -- the rightmost alternative that applies decides; the first argument is what holds if none does
 unfoldable pub decidedBy : Bool → List UserMark → Bool
 decidedBy d [] = d
-decidedBy d (m ∷ ms) = decidedBy (pick (m .applies) (not (m .negated)) d) ms
+decidedBy d (m ∷ ms) = decidedBy (cond (m .applies) (not (m .negated)) d) ms
 
 -- if none applies, root is accepted and nobody else
 unfoldable pub usersAccept : List ℕ → List UserMark → Bool

@@ -1,11 +1,10 @@
 -- What the deciding entry answers: nargs, argument patterns, path length, password, in that order (01, "Options").
 use Prim.Native.Nat.{ℕ}
-use mathlib.Core.Bool.{Bool, true, false, not}
+use mathlib.Core.Bool.{Bool, true, false, not, cond}
 use mathlib.Core.List.{List}
 use mathlib.Core.Option.{Option, none, some}
 use lib.Dec.{ltb}
 use lib.ListN.{length}
-use Rattle.text.specs.Choice.{pick}
 use Rattle.question.specs.Question.{Question}
 use Rattle.question.specs.Password.{passwordNeeded}
 use Rattle.options.specs.Options.{Options, over, authOr, timeoutOr, nargsAllow}
@@ -23,16 +22,16 @@ pub data Verdict : Type 0 where
 
 unfoldable pub verdictOn : Question → Options → List ArgumentPattern → List ℕ → Verdict
 verdictOn q o ps path =
-    pick (not (nargsAllow (o .nargs) (length (q .args)))) stoppedByNargs
-    (pick (not (argumentsPass ps (q .args))) stoppedByArgument
-    (pick (ltb 1024 (length path)) stoppedByPath
-    (pick (passwordNeeded (authOr (o .auth)) (timeoutOr (o .timeout)) (q .age)) (password path o)
+    cond (not (nargsAllow (o .nargs) (length (q .args)))) stoppedByNargs
+    (cond (not (argumentsPass ps (q .args))) stoppedByArgument
+    (cond (ltb 1024 (length path)) stoppedByPath
+    (cond (passwordNeeded (authOr (o .auth)) (timeoutOr (o .timeout)) (q .age)) (password path o)
     (permit path o))))
 
 abbrev pub verdictIf : Question → Options → List ArgumentPattern → Entry → Option (List ℕ) → Option Verdict
 verdictIf q o ps e none = none
 verdictIf q o ps e (some path) =
-    pick (conditionsAccept q e)
+    cond (conditionsAccept q e)
     (some (verdictOn q (over (optionsOf (e .settings)) o) (inForce ps (argumentsOf (e .settings))) path))
     none
 

@@ -37,28 +37,33 @@ numberOf OptionTwice = 14
 numberOf TooManyNames = 18
 
 -- what a reading gives: a value, or the first fault
-pub data Reading (A : Type 0) : Type 0 where
-  fault : Cause → Reading A
-  value : A → Reading A
+pub data Reading (F A : Type 0) : Type 0 where
+  fault : F → Reading F A
+  value : A → Reading F A
 
-module _ {A B : Type 0} where
+module _ {F A B : Type 0} where
   -- the first fault wins: the next reading is done where this one has none
-  abbrev pub andThen : Reading A → (A → Reading B) → Reading B
+  abbrev pub andThen : Reading F A → (A → Reading F B) → Reading F B
   andThen (fault c) f = fault c
   andThen (value a) f = f a
 
--- each in order, up to the first fault
-module _ {A B : Type 0} where
-  unfoldable pub readAll : (A → Reading B) → List A → Reading (List B)
-  readAll f [] = value []
-  readAll f (x ∷ xs) = andThen (f x) (λ y. andThen (readAll f xs) (λ ys. value (y ∷ ys)))
-
   -- a value that must be there
-  abbrev pub needed : Cause → Option A → (A → Reading B) → Reading B
+  abbrev pub needed : F → Option A → (A → Reading F B) → Reading F B
   needed c none f = fault c
   needed c (some a) f = f a
 
--- a check: its fault where the test fails
-abbrev pub unless : {A : Type 0} → Bool → Cause → Reading A → Reading A
-unless true c r = fault c
-unless false c r = r
+-- each in order, up to the first fault
+module _ {F A B : Type 0} where
+  unfoldable pub readAll : (A → Reading F B) → List A → Reading F (List B)
+  readAll f [] = value []
+  readAll f (x ∷ xs) = andThen (f x) (λ y. andThen (readAll f xs) (λ ys. value (y ∷ ys)))
+
+module _ {F A : Type 0} where
+  -- a check: its fault where the test fails
+  abbrev pub require : Bool → F → Reading F A → Reading F A
+  require true c r = r
+  require false c r = fault c
+
+  abbrev pub unless : Bool → F → Reading F A → Reading F A
+  unless true c r = fault c
+  unless false c r = r

@@ -1,6 +1,6 @@
 -- Which arguments fail a pattern, kept by value. Assumes nothing.
 use mathlib.Core.Path.{_≡_, refl, sym, ap, _∙_}
-use mathlib.Core.Bool.{Bool, false, not}
+use mathlib.Core.Bool.{Bool, false, not, _||_}
 use mathlib.Core.List.{List, [], _∷_, _++_, append-nil}
 use mathlib.Core.Option.{some}
 use Prim.Native.Nat.{ℕ, zero, suc, _+_, _-_, _≤_, _<_}
@@ -10,7 +10,6 @@ use borrow.Author.Tests.{le-leb, lt-leb}
 use lib.Dec.{leb}
 use lib.ListN.{length, take, drop, getD, set, replicate, drop-of-length-le, take-append-drop}
 use lib.Seq.{take-all, take-suc-set, drop-set-lt}
-use Rattle.text.specs.Choice.{either}
 use Rattle.text.specs.Lists.{all, any}
 use Rattle.text.proofs.Laws.{next-of, both-no, both-yes, not-both}
 use Rattle.text.proofs.Lists.{all-append}
@@ -23,15 +22,15 @@ use Rattle.options.specs.Arguments.{ArgumentPattern, patternAt, passes, 
 
 -- one argument and one pattern
 module _ (k m n : ℕ) (p a : List ℕ) {b : Bool} (e : b ≡ false) where
-  pub fails-low : k < m → false ≡ either b (not (passes k a (patternAt (range m n) p)))
+  pub fails-low : k < m → false ≡ b || not (passes k a (patternAt (range m n) p))
   unfolding passes
   fails-low h = rw (e, lt-leb m k h)
 
-  pub fails-high : n < k → false ≡ either b (not (passes k a (patternAt (range m n) p)))
+  pub fails-high : n < k → false ≡ b || not (passes k a (patternAt (range m n) p))
   unfolding passes
   fails-high h = rw (e, lt-leb k n h, both-no (leb m k))
 
-  pub fails-in : {r : Bool} → m ≤ k → k ≤ n → r ≡ matchesPattern Plain p a → not r ≡ either b (not (passes k a (patternAt (range m n) p)))
+  pub fails-in : {r : Bool} → m ≤ k → k ≤ n → r ≡ matchesPattern Plain p a → not r ≡ b || not (passes k a (patternAt (range m n) p))
   unfolding passes matchesPattern
   fails-in h l q = rw (e, le-leb m k h, le-leb k n l, q)
 
@@ -73,7 +72,7 @@ module _ (p : ArgumentPattern) (args : List ℕ) (at : List Bool) (from i : ℕ)
     marked-open q = sym (marked-off (in-open args from end e q))
 
     pub marked-on : end < length args → i < length at → {b : Bool}
-        → b ≡ either (getD at i false) (not (passes (i + 1) (take (end - from) (drop from args)) p))
+        → b ≡ getD at i false || not (passes (i + 1) (take (end - from) (drop from args)) p)
         → take (i + 1) (set at i b) ++ marked (i + 1 + 1) p (stringsIn (drop (end + 1) args)) (drop (i + 1) (set at i b)) ≡ markedFrom
     unfolding marked
     marked-on h k {b} q =
@@ -89,7 +88,7 @@ module _ (at other : List Bool) (i : ℕ) where
   unfolding joined
   joined-end h k = sym (rw (drop-of-length-le at h, drop-of-length-le other k, take-all i at h) (append-nil at))
 
-  pub joined-on : i < length at → i < length other → {b : Bool} → b ≡ either (getD at i false) (getD other i false)
+  pub joined-on : i < length at → i < length other → {b : Bool} → b ≡ getD at i false || getD other i false
       → take (i + 1) (set at i b) ++ joined (drop (i + 1) (set at i b)) (drop (i + 1) other) ≡ joinedFrom
   unfolding joined
   joined-on h k {b} q =
@@ -114,7 +113,7 @@ pub failures-none : (xs : List (List ℕ)) → failures [] xs ≡ replicate 64 f
 unfolding failures
 failures-none xs = none-from 64 1 xs
 
-fail-more : (f : ArgumentPattern → Bool) (ps qs : List ArgumentPattern) → not (all f (ps ++ qs)) ≡ either (not (all f ps)) (not (all f qs))
+fail-more : (f : ArgumentPattern → Bool) (ps qs : List ArgumentPattern) → not (all f (ps ++ qs)) ≡ not (all f ps) || not (all f qs)
 fail-more f ps qs = ap not (all-append f ps qs) ∙ not-both (all f ps) (all f qs)
 
 more-from : (n i : ℕ) (ps : List ArgumentPattern) (p : ArgumentPattern) (xs : List (List ℕ)) → marked i p xs (failuresFrom n i ps xs) ≡ failuresFrom n i (ps ++ (p ∷ [])) xs
@@ -123,7 +122,7 @@ more-from zero i ps p [] = refl
 more-from zero i ps p (a ∷ xs) = refl
 more-from (suc n) i ps p [] = ap (λ l. false ∷ l) (empty-from n (i + 1) ps ∙ sym (empty-from n (i + 1) (ps ++ (p ∷ []))))
 more-from (suc n) i ps p (a ∷ xs) =
-    let h : not (all (passes i a) (ps ++ (p ∷ []))) ≡ either (not (all (passes i a) ps)) (not (passes i a p)) = fail-more (passes i a) ps (p ∷ []) ∙ rw (both-yes (passes i a p)) in
+    let h : not (all (passes i a) (ps ++ (p ∷ []))) ≡ not (all (passes i a) ps) || not (passes i a p) = fail-more (passes i a) ps (p ∷ []) ∙ rw (both-yes (passes i a p)) in
     rw (h, more-from n (i + 1) ps p xs)
 
 -- one more pattern

@@ -1,17 +1,17 @@
 -- The options of a line, as its fields are read. Assumes nothing.
 use mathlib.Core.Path.{_≡_, refl, sym, ap, _∙_}
-use mathlib.Core.Bool.{Bool, true, false}
+use mathlib.Core.Bool.{Bool, true, false, cond, _||_}
 use mathlib.Core.List.{List, [], _∷_, _++_, append-nil, append-assoc}
 use mathlib.Core.Option.{Option, none, some}
 use Prim.Native.Nat.{ℕ}
 use borrow.Author.Tests.{eq-eqb, eqb-true}
 use lib.ListN.{take}
 use lib.Dec.{eqb}
-use Rattle.text.specs.Choice.{pick, either}
 use Rattle.text.specs.Lists.{any, firstOf}
 use Rattle.text.proofs.Laws.{either-no, same-test}
 use Rattle.text.proofs.Lists.{any-append}
 use Rattle.fault.specs.Fault.{Reading, fault, value}
+use Rattle.fault.specs.declared.Cause.{Cause}
 use Rattle.options.specs.declared.Id.{Id}
 use Rattle.options.specs.declared.Id.the-variants.{Uid, Euid, Gid, Egid}
 use Rattle.options.specs.declared.ids.IdName.{IdName}
@@ -41,7 +41,7 @@ pub given-set : (n : IdName) → n .given ≡ isSet (idIn n)
 unfolding idIn
 given-set n = go (n .given)
   where
-    go : (b : Bool) → b ≡ isSet (pick b (some (take (n .size) (n .bytes))) none)
+    go : (b : Bool) → b ≡ isSet (cond b (some (take (n .size) (n .bytes))) none)
     go true = refl
     go false = refl
 
@@ -69,8 +69,8 @@ unfolding givenOf optionsOf hasShell twice any
 none-given o e = rw e
 
 -- a line with what one more field adds
-pub added : (g : Given) (o : Option (Reading Setting)) {x n : Options} {s t : Bool}
-    → n ≡ onlyRead o → x ≡ over (g .options) n → s ≡ either (g .shell) (shellRead o) → t ≡ either (g .repeated) (holdsRead g o)
+pub added : (g : Given) (o : Option (Reading Cause Setting)) {x n : Options} {s t : Bool}
+    → n ≡ onlyRead o → x ≡ over (g .options) n → s ≡ g .shell || shellRead o → t ≡ g .repeated || holdsRead g o
     → record { options = x; shell = s; repeated = t } ≡ plusRead g o
 unfolding plus
 added g none p q r s = rw (q, p, over-none (g .options), r, s, either-no (g .shell), either-no (g .repeated))
@@ -111,12 +111,12 @@ only-slots (setNargs r) = (refl, refl, refl, refl, refl, refl, refl, refl)
 only-slots (setArgument p) = (refl, refl, refl, refl, refl, refl, refl, refl)
 only-slots setShell = (refl, refl, refl, refl, refl, refl, refl, refl)
 
-set-either : {A : Type 0} (a b : Option A) → isSet (firstOf a b) ≡ either (isSet a) (isSet b)
+set-either : {A : Type 0} (a b : Option A) → isSet (firstOf a b) ≡ isSet a || isSet b
 set-either none b = refl
 set-either (some x) b = refl
 
 -- an option is set in a line's options exactly if a setting of it is among the line's
-module _ (k : ℕ) (f : Options → Bool) (none-f : f noOptions ≡ false) (over-f : (a b : Options) → f (over a b) ≡ either (f a) (f b)) (only-f : (s : Setting) → f (only s) ≡ isOption k (whichOption s)) where
+module _ (k : ℕ) (f : Options → Bool) (none-f : f noOptions ≡ false) (over-f : (a b : Options) → f (over a b) ≡ f a || f b) (only-f : (s : Setting) → f (only s) ≡ isOption k (whichOption s)) where
   slot-is : (ss : List Setting) → f (optionsOf ss) ≡ any (λ s. isOption k (whichOption s)) ss
   unfolding optionsOf any
   slot-is [] = none-f
@@ -149,39 +149,39 @@ meets-swap none (some n) = refl
 meets-swap (some m) none = refl
 meets-swap (some m) (some n) = eqb-swap m n
 
-among-first : (x : Setting) (ss : List Setting) (o : Option ℕ) → among (x ∷ ss) o ≡ either (meets o (whichOption x)) (among ss o)
+among-first : (x : Setting) (ss : List Setting) (o : Option ℕ) → among (x ∷ ss) o ≡ meets o (whichOption x) || among ss o
 unfolding any
 among-first x ss none = refl
 among-first x ss (some n) = refl
 
-among-more : (ss : List Setting) (s : Setting) (o : Option ℕ) → among (ss ++ (s ∷ [])) o ≡ either (among ss o) (meets o (whichOption s))
+among-more : (ss : List Setting) (s : Setting) (o : Option ℕ) → among (ss ++ (s ∷ [])) o ≡ among ss o || meets o (whichOption s)
 unfolding any
 among-more ss s none = refl
-among-more ss s (some n) = any-append (λ x. isOption n (whichOption x)) ss (s ∷ []) ∙ ap (either (any (λ x. isOption n (whichOption x)) ss)) (either-no (isOption n (whichOption s)))
+among-more ss s (some n) = any-append (λ x. isOption n (whichOption x)) ss (s ∷ []) ∙ ap (_||_ (any (λ x. isOption n (whichOption x)) ss)) (either-no (isOption n (whichOption s)))
 
 among-none : (o : Option ℕ) → among [] o ≡ false
 unfolding any
 among-none none = refl
 among-none (some n) = refl
 
-regroup : (a m t b : Bool) → either (either a m) (either t b) ≡ either (either a t) (either m b)
+regroup : (a m t b : Bool) → a || m || (t || b) ≡ a || t || (m || b)
 regroup true m t b = refl
 regroup false true true b = refl
 regroup false true false b = refl
 regroup false false t b = refl
 
-twice-more : (ss : List Setting) (s : Setting) → twice (ss ++ (s ∷ [])) ≡ either (twice ss) (among ss (whichOption s))
+twice-more : (ss : List Setting) (s : Setting) → twice (ss ++ (s ∷ [])) ≡ twice ss || among ss (whichOption s)
 unfolding twice
 twice-more [] s = rw (among-none (whichOption s))
 twice-more (x ∷ ss) s =
     rw (among-more ss s (whichOption x), twice-more ss s, among-first x ss (whichOption s), meets-swap (whichOption s) (whichOption x))
     (regroup (among ss (whichOption x)) (meets (whichOption x) (whichOption s)) (twice ss) (among ss (whichOption s)))
 
-shell-more : (ss : List Setting) (s : Setting) → hasShell (ss ++ (s ∷ [])) ≡ either (hasShell ss) (isShell s)
+shell-more : (ss : List Setting) (s : Setting) → hasShell (ss ++ (s ∷ [])) ≡ hasShell ss || isShell s
 unfolding hasShell any
 shell-more ss s =
     any-append (λ x. isOption 7 (whichOption x)) ss (s ∷ [])
-    ∙ ap (either (any (λ x. isOption 7 (whichOption x)) ss)) (either-no (isOption 7 (whichOption s)) ∙ sym (only-slots s .7))
+    ∙ ap (_||_ (any (λ x. isOption 7 (whichOption x)) ss)) (either-no (isOption 7 (whichOption s)) ∙ sym (only-slots s .7))
 
 -- so a line's options can be read one after the other
 pub given-more : (ss : List Setting) (s : Setting) → plus (givenOf ss) s ≡ givenOf (ss ++ (s ∷ []))

@@ -1,6 +1,6 @@
 -- Reading one option: one law for each answer. Assumes nothing.
 use mathlib.Core.Path.{_≡_, refl, sym, ap, _∙_}
-use mathlib.Core.Bool.{Bool, true, false, not}
+use mathlib.Core.Bool.{Bool, true, false, not, _&&_}
 use mathlib.Core.List.{List}
 use mathlib.Core.Option.{Option, none, some}
 use Prim.Native.Nat.{ℕ, _+_, _-_, _≤_, _<_, min}
@@ -11,7 +11,6 @@ use lib.Dec.{leb}
 use lib.IntN.{ℤ}
 use lib.ListN.{length, take, drop, length-drop}
 use lib.Seq.{take-all}
-use Rattle.text.specs.Choice.{both}
 use Rattle.text.specs.Bytes.{bytes}
 use Rattle.text.specs.Slice.{same, findByte}
 use Rattle.text.proofs.Laws.{part-rest}
@@ -22,6 +21,7 @@ use Rattle.pattern.specs.declared.Pattern.{Pattern}
 use Rattle.pattern.specs.declared.Shape.{Shape}
 use Rattle.pattern.specs.declared.Shape.the-variants.{Malformed, Read}
 use Rattle.fault.specs.Fault.{Reading, fault, value, unless, needed}
+use Rattle.fault.specs.declared.Cause.{Cause}
 use Rattle.options.specs.declared.Id.{Id}
 use Rattle.options.specs.declared.timeout.Timeout.{Timeout}
 use Rattle.options.specs.declared.timeout.Timeout.the-variants.{Unset, Minutes}
@@ -114,27 +114,27 @@ capped n = elim (decLe n 64) [ yes h ↦ rw (le-leb n 64 h, le-leb (min n 65) 64
     go h k = rw (lt-leb n 64 h, lt-leb (min n 65) 64 k)
 
 -- the pattern of an argument, by its shape
-module _ (v : Reading Setting) where
-  abbrev fitting : Tree → Reading Setting
+module _ (v : Reading Cause Setting) where
+  abbrev fitting : Tree → Reading Cause Setting
   fitting t = unless (not (fits t)) PatternSize v
 
   shape-bad : (o : Option Tree) → shapeIn o ≡ Malformed → fault BadPattern ≡ needed BadPattern o fitting
   shape-bad none e = refl
   shape-bad (some t) e = cc
 
-  size-told : (t : Tree) (p : Pattern) → shapeIn (some t) ≡ Read p → both (leb (p .depth) 4) (leb (p .number) 64) ≡ fits t
+  size-told : (t : Tree) (p : Pattern) → shapeIn (some t) ≡ Read p → leb (p .depth) 4 && leb (p .number) 64 ≡ fits t
   unfolding sizeOf fits
   size-told t p e =
       let d : depth t ≡ p .depth = cc in
       let n : min (number t) 65 ≡ p .number = cc in
       rw (← d, ← n, capped (number t))
 
-  shape-good : (o : Option Tree) (p : Pattern) → shapeIn o ≡ Read p → both (leb (p .depth) 4) (leb (p .number) 64) ≡ true
+  shape-good : (o : Option Tree) (p : Pattern) → shapeIn o ≡ Read p → leb (p .depth) 4 && leb (p .number) 64 ≡ true
       → v ≡ needed BadPattern o fitting
   shape-good none p e f = cc
   shape-good (some t) p e f = let q : fits t ≡ true = sym (size-told t p e) ∙ f in rw q
 
-  shape-large : (o : Option Tree) (p : Pattern) → shapeIn o ≡ Read p → both (leb (p .depth) 4) (leb (p .number) 64) ≡ false
+  shape-large : (o : Option Tree) (p : Pattern) → shapeIn o ≡ Read p → leb (p .depth) 4 && leb (p .number) 64 ≡ false
       → fault PatternSize ≡ needed BadPattern o fitting
   shape-large none p e f = cc
   shape-large (some t) p e f = let q : fits t ≡ false = sym (size-told t p e) ∙ f in rw q
@@ -148,12 +148,12 @@ module _ (t : List ℕ) (at : ℕ) (r : Range) {x : Shape} (e : x ≡ shapeOf Pl
   unfolding argumentOf
   argument-bad q = ap some (shape-bad (value (setArgument (patternAt r (drop at t)))) (treeOf Plain (drop at t)) (sym shaped ∙ q))
 
-  pub argument-good : {p : Pattern} → x ≡ Read p → both (leb (p .depth) 4) (leb (p .number) 64) ≡ true
+  pub argument-good : {p : Pattern} → x ≡ Read p → leb (p .depth) 4 && leb (p .number) 64 ≡ true
       → some (value (setArgument (patternAt r (drop at t)))) ≡ some (argumentOf r (drop at t))
   unfolding argumentOf
   argument-good {p} q f = ap some (shape-good (value (setArgument (patternAt r (drop at t)))) (treeOf Plain (drop at t)) p (sym shaped ∙ q) f)
 
-  pub argument-large : {p : Pattern} → x ≡ Read p → both (leb (p .depth) 4) (leb (p .number) 64) ≡ false → some (fault PatternSize) ≡ some (argumentOf r (drop at t))
+  pub argument-large : {p : Pattern} → x ≡ Read p → leb (p .depth) 4 && leb (p .number) 64 ≡ false → some (fault PatternSize) ≡ some (argumentOf r (drop at t))
   unfolding argumentOf
   argument-large {p} q f = ap some (shape-large (value (setArgument (patternAt r (drop at t)))) (treeOf Plain (drop at t)) p (sym shaped ∙ q) f)
 
@@ -163,7 +163,7 @@ module _ (global : Bool) (t : List ℕ) where
   unfolding optionOf
   option-none e = rw (parted-missing 61 t e)
 
-  pub option-named : {i : ℕ} {x k : OptionName} {r : Option (Reading Setting)}
+  pub option-named : {i : ℕ} {x k : OptionName} {r : Option (Reading Cause Setting)}
       → findByte 61 0 t ≡ At i → nameIn x ≡ nameOf global (take i t) → x ≡ k → r ≡ named (nameIn k) (drop (i + 1) t) → r ≡ optionOf global t
   unfolding optionOf
   option-named {i} {x} {k} e n q h = rw (parted-found 61 t i e, ← n, q) h

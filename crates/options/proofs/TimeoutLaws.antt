@@ -11,6 +11,7 @@ use Rattle.text.specs.declared.number.Number.{Number}
 use Rattle.text.specs.declared.number.Number.the-variants.{Value, Malformed}
 use Rattle.text.proofs.Laws.{next, part-rest}
 use Rattle.fault.specs.Fault.{Reading, fault, value}
+use Rattle.fault.specs.declared.Cause.{Cause}
 use Rattle.fault.specs.declared.Cause.the-variants.{OptionValue}
 use Rattle.options.specs.Read.{Setting, setTimeout, bounded, timeoutOf}
 use mir.Syntax.{w32}
@@ -62,8 +63,8 @@ module _ (s : List ℕ) where
     begins : s ≡ getD s 0 0 ∷ drop 1 s
     begins = next s 0 h
 
-    pub timeout-minus : {r : Reading Setting} → getD s 0 0 ≡ 45 → r ≡ bounded (λ n. negℤ (pos n)) 32768 (numberOf (take (length s - 1) (drop 1 s))) → r ≡ timeoutOf s
+    pub timeout-minus : {r : Reading Cause Setting} → getD s 0 0 ≡ 45 → r ≡ bounded (λ n. negℤ (pos n)) 32768 (numberOf (take (length s - 1) (drop 1 s))) → r ≡ timeoutOf s
     timeout-minus e q = q ∙ rw (part-rest 1 s) (sym (ap timeoutOf begins ∙ at-minus (getD s 0 0) (drop 1 s) e))
 
-    pub timeout-plain : {r : Reading Setting} → (getD s 0 0 ≡ 45 → ⊥) → r ≡ bounded pos 32767 (numberOf s) → r ≡ timeoutOf s
+    pub timeout-plain : {r : Reading Cause Setting} → (getD s 0 0 ≡ 45 → ⊥) → r ≡ bounded pos 32767 (numberOf s) → r ≡ timeoutOf s
     timeout-plain e q = q ∙ sym (ap timeoutOf begins ∙ at-other (getD s 0 0) (drop 1 s) e ∙ ap (λ (l : List ℕ). bounded pos 32767 (numberOf l)) (sym begins))

@@ -1,8 +1,7 @@
 -- Argument patterns: which arguments they cover, and whether all of these match (01: "an argument must match each that covers it").
 use Prim.Native.Nat.{ℕ, zero, suc, _+_}
-use mathlib.Core.Bool.{Bool, true, false, not}
+use mathlib.Core.Bool.{Bool, true, false, not, _&&_, _||_}
 use mathlib.Core.List.{List, [], _∷_, _++_}
-use Rattle.text.specs.Choice.{both, either}
 use Rattle.text.specs.Lists.{all}
 use Rattle.pattern.specs.Match.{matchesSome}
 use Rattle.pattern.specs.Whole.{expansionsOf}
@@ -20,12 +19,12 @@ patternAt r p = record { positions = r; expansions = expansionsOf Plain p }
 
 -- the argument at a position passes a pattern that does not cover it, or that it matches
 unfoldable pub passes : ℕ → List ℕ → ArgumentPattern → Bool
-passes i a p = either (not (inRange (p .positions) i)) (matchesSome (p .expansions) a)
+passes i a p = not (inRange (p .positions) i) || matchesSome (p .expansions) a
 
 -- the arguments from position i on pass all patterns in force
 unfoldable pub argumentsFrom : ℕ → List ArgumentPattern → List (List ℕ) → Bool
 argumentsFrom i ps [] = true
-argumentsFrom i ps (a ∷ rest) = both (all (passes i a) ps) (argumentsFrom (i + 1) ps rest)
+argumentsFrom i ps (a ∷ rest) = all (passes i a) ps && argumentsFrom (i + 1) ps rest
 
 unfoldable pub argumentsPass : List ArgumentPattern → List (List ℕ) → Bool
 argumentsPass ps xs = argumentsFrom 1 ps xs
@@ -48,10 +47,10 @@ failures ps xs = failuresFrom 64 1 ps xs
 unfoldable pub marked : ℕ → ArgumentPattern → List (List ℕ) → List Bool → List Bool
 marked i p xs [] = []
 marked i p [] (f ∷ fs) = f ∷ fs
-marked i p (a ∷ xs) (f ∷ fs) = either f (not (passes i a p)) ∷ marked (i + 1) p xs fs
+marked i p (a ∷ xs) (f ∷ fs) = (f || not (passes i a p)) ∷ marked (i + 1) p xs fs
 
 -- the failures of one list of patterns or of another
 unfoldable pub joined : List Bool → List Bool → List Bool
 joined [] gs = gs
 joined (f ∷ fs) [] = f ∷ fs
-joined (f ∷ fs) (g ∷ gs) = either f g ∷ joined fs gs
+joined (f ∷ fs) (g ∷ gs) = (f || g) ∷ joined fs gs

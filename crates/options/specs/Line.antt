@@ -1,10 +1,10 @@
 -- The options of one line, as its fields are read one after the other.
 use Prim.Native.Nat.{ℕ}
-use mathlib.Core.Bool.{Bool, true, false}
+use mathlib.Core.Bool.{Bool, true, false, _||_}
 use mathlib.Core.List.{List, [], _∷_}
 use mathlib.Core.Option.{Option, none, some}
-use Rattle.text.specs.Choice.{either}
 use Rattle.fault.specs.Fault.{Reading, fault, value}
+use Rattle.fault.specs.declared.Cause.{Cause}
 use Rattle.options.specs.declared.Id.{Id}
 use Rattle.options.specs.declared.Id.the-variants.{Uid, Euid, Gid, Egid}
 use Rattle.options.specs.Options.{Options, noOptions, over}
@@ -49,16 +49,16 @@ isShell setShell = true
 
 -- one more setting behind those of the line
 unfoldable pub plus : Given → Setting → Given
-plus g s = record { options = over (g .options) (only s); shell = either (g .shell) (isShell s); repeated = either (g .repeated) (holds g s) }
+plus g s = record { options = over (g .options) (only s); shell = g .shell || isShell s; repeated = g .repeated || holds g s }
 
 -- what a field adds: nothing where it is no option or has a fault
-abbrev pub plusRead : Given → Option (Reading Setting) → Given
+abbrev pub plusRead : Given → Option (Reading Cause Setting) → Given
 plusRead g none = g
 plusRead g (some (fault c)) = g
 plusRead g (some (value s)) = plus g s
 
 -- what a field adds to the failures among the arguments xs
-abbrev pub markedRead : List (List ℕ) → List Bool → Option (Reading Setting) → List Bool
+abbrev pub markedRead : List (List ℕ) → List Bool → Option (Reading Cause Setting) → List Bool
 markedRead xs fs none = fs
 markedRead xs fs (some (fault c)) = fs
 markedRead xs fs (some (value (setId i v))) = fs
@@ -69,17 +69,17 @@ markedRead xs fs (some (value (setArgument p))) = marked 1 p xs fs
 markedRead xs fs (some (value setShell)) = fs
 
 -- the parts of it
-abbrev pub onlyRead : Option (Reading Setting) → Options
+abbrev pub onlyRead : Option (Reading Cause Setting) → Options
 onlyRead none = noOptions
 onlyRead (some (fault c)) = noOptions
 onlyRead (some (value s)) = only s
 
-abbrev pub shellRead : Option (Reading Setting) → Bool
+abbrev pub shellRead : Option (Reading Cause Setting) → Bool
 shellRead none = false
 shellRead (some (fault c)) = false
 shellRead (some (value s)) = isShell s
 
-abbrev pub holdsRead : Given → Option (Reading Setting) → Bool
+abbrev pub holdsRead : Given → Option (Reading Cause Setting) → Bool
 holdsRead g none = false
 holdsRead g (some (fault c)) = false
 holdsRead g (some (value s)) = holds g s

@@ -1,11 +1,10 @@
 -- The options that hold one setting, and one set of them laid over another (01, "Options").
 use Prim.Native.Nat.{ℕ}
-use mathlib.Core.Bool.{Bool, true, false}
+use mathlib.Core.Bool.{Bool, true, false, _&&_}
 use mathlib.Core.List.{List, [], _∷_}
 use mathlib.Core.Option.{Option, none, some}
 use lib.IntN.{ℤ, pos}
 use lib.Dec.{leb}
-use Rattle.text.specs.Choice.{both}
 use Rattle.text.specs.Class.{within}
 use Rattle.text.specs.Lists.{firstOf}
 

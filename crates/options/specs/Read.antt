@@ -1,12 +1,11 @@
 -- One option from a field's text: its name, its value, or its fault (01, "Options").
 use Prim.Native.Nat.{ℕ}
-use mathlib.Core.Bool.{Bool, true, false, not}
+use mathlib.Core.Bool.{Bool, true, false, not, cond, _&&_, _||_}
 use mathlib.Core.List.{List, [], _∷_, _++_}
 use mathlib.Core.Option.{Option, none, some}
 use lib.IntN.{ℤ, pos, negℤ}
 use lib.Dec.{eqb, leb, ltb}
 use lib.ListN.{length, drop}
-use Rattle.text.specs.Choice.{pick, both, either}
 use Rattle.text.specs.Bytes.{bytes}
 use Rattle.text.specs.Class.{nameByte, within}
 use Rattle.text.specs.Lists.{all, any, null}
@@ -16,6 +15,7 @@ use Rattle.text.specs.Number.{numberOf}
 use Rattle.text.specs.declared.number.Number.{Number}
 use Rattle.text.specs.declared.number.Number.the-variants.{Value, Malformed}
 use Rattle.fault.specs.Fault.{Reading, fault, value, unless, needed}
+use Rattle.fault.specs.declared.Cause.{Cause}
 use Rattle.fault.specs.declared.Cause.the-variants.{Pattern, PatternSize, IdLength, OptionValue, PatternKind}
 use Rattle.pattern.specs.declared.Kind.the-variants.{Plain}
 use Rattle.pattern.specs.Tree.{treeOf, fits}
@@ -26,7 +26,7 @@ use Rattle.options.specs.Arguments.{ArgumentPattern, patternAt}
 
 -- a number, or two with `-` between them, from least to most, the first not above the second
 abbrev pub span : ℕ → ℕ → Number → Number → Option Range
-span least most (Value m) (Value n) = pick (both (leb least m) (both (leb m n) (leb n most))) (some (range m n)) none
+span least most (Value m) (Value n) = cond (leb least m && (leb m n && leb n most)) (some (range m n)) none
 span least most (Value m) Malformed = none
 span least most Malformed n = none
 
@@ -50,15 +50,15 @@ argumentName (some r) = some (argument r)
 -- uid, euid, gid, egid, auth, timeout, nargs, argN, argM-N (1 to 64, M not above N); patterns on `:global` only
 unfoldable pub nameOf : Bool → List ℕ → Option Name
 nameOf global n =
-    pick (same n (bytes "uid")) (some (idName Uid))
-    (pick (same n (bytes "euid")) (some (idName Euid))
-    (pick (same n (bytes "gid")) (some (idName Gid))
-    (pick (same n (bytes "egid")) (some (idName Egid))
-    (pick (same n (bytes "auth")) (some auth)
-    (pick (same n (bytes "timeout")) (some timeout)
-    (pick (same n (bytes "nargs")) (some nargs)
-    (pick (both global (same n (bytes "patterns"))) (some patterns)
-    (pick (startsWith (bytes "arg") n) (argumentName (rangeOf 1 64 (drop 3 n)))
+    cond (same n (bytes "uid")) (some (idName Uid))
+    (cond (same n (bytes "euid")) (some (idName Euid))
+    (cond (same n (bytes "gid")) (some (idName Gid))
+    (cond (same n (bytes "egid")) (some (idName Egid))
+    (cond (same n (bytes "auth")) (some auth)
+    (cond (same n (bytes "timeout")) (some timeout)
+    (cond (same n (bytes "nargs")) (some nargs)
+    (cond (global && same n (bytes "patterns")) (some patterns)
+    (cond (startsWith (bytes "arg") n) (argumentName (rangeOf 1 64 (drop 3 n)))
     none))))))))
 
 -- an option with its value
@@ -72,38 +72,38 @@ pub data Setting : Type 0 where
 
 -- bytes of the user alphabet, or `<owner>`, `<caller>`
 unfoldable pub isId : List ℕ → Bool
-isId v = either (same v (bytes "<owner>")) (either (same v (bytes "<caller>")) (both (not (null v)) (all nameByte v)))
+isId v = same v (bytes "<owner>") || (same v (bytes "<caller>") || not (null v) && all nameByte v)
 
 -- the size before the form
-unfoldable pub idOf : Id → List ℕ → Reading Setting
+unfoldable pub idOf : Id → List ℕ → Reading Cause Setting
 idOf i v = unless (ltb 64 (length v)) IdLength (unless (not (isId v)) OptionValue (value (setId i v)))
 
-unfoldable pub authOf : List ℕ → Reading Setting
-authOf v = pick (same v (bytes "y")) (value (setAuth true)) (pick (same v (bytes "n")) (value (setAuth false)) (fault OptionValue))
+unfoldable pub authOf : List ℕ → Reading Cause Setting
+authOf v = cond (same v (bytes "y")) (value (setAuth true)) (cond (same v (bytes "n")) (value (setAuth false)) (fault OptionValue))
 
 -- a number from 0 to most, as an integer
-abbrev pub bounded : (ℕ → ℤ) → ℕ → Number → Reading Setting
+abbrev pub bounded : (ℕ → ℤ) → ℕ → Number → Reading Cause Setting
 bounded f most (Value n) = unless (ltb most n) OptionValue (value (setTimeout (f n)))
 bounded f most Malformed = fault OptionValue
 
 -- -32,768 to 32,767, one to five digits after an optional `-`
-unfoldable pub timeoutOf : List ℕ → Reading Setting
+unfoldable pub timeoutOf : List ℕ → Reading Cause Setting
 timeoutOf [] = fault OptionValue
-timeoutOf (b ∷ s) = pick (eqb b 45) (bounded (λ n. negℤ (pos n)) 32768 (numberOf s)) (bounded pos 32767 (numberOf (b ∷ s)))
+timeoutOf (b ∷ s) = cond (eqb b 45) (bounded (λ n. negℤ (pos n)) 32768 (numberOf s)) (bounded pos 32767 (numberOf (b ∷ s)))
 
 -- a pattern is well formed, then not too large
-unfoldable pub argumentOf : Range → List ℕ → Reading Setting
+unfoldable pub argumentOf : Range → List ℕ → Reading Cause Setting
 argumentOf r v = needed Pattern (treeOf Plain v) (λ t. unless (not (fits t)) PatternSize (value (setArgument (patternAt r v))))
 
-abbrev pub nargsOf : List ℕ → Reading Setting
+abbrev pub nargsOf : List ℕ → Reading Cause Setting
 nargsOf v = needed OptionValue (rangeOf 0 64 v) (λ r. value (setNargs r))
 
 -- any value but `shell`, an empty one too, is another kind
-abbrev pub kindOf : List ℕ → Reading Setting
-kindOf v = pick (same v (bytes "shell")) (value setShell) (fault PatternKind)
+abbrev pub kindOf : List ℕ → Reading Cause Setting
+kindOf v = cond (same v (bytes "shell")) (value setShell) (fault PatternKind)
 
 -- the value behind `=`
-unfoldable pub settingOf : Name → List ℕ → Reading Setting
+unfoldable pub settingOf : Name → List ℕ → Reading Cause Setting
 settingOf (idName i) v = idOf i v
 settingOf auth v = authOf v
 settingOf timeout v = timeoutOf v
@@ -112,16 +112,16 @@ settingOf patterns v = kindOf v
 settingOf (argument r) v = argumentOf r v
 
 -- the name of an option that stands before the first `=`
-abbrev pub named : Option Name → List ℕ → Option (Reading Setting)
+abbrev pub named : Option Name → List ℕ → Option (Reading Cause Setting)
 named none v = none
 named (some n) v = some (settingOf n v)
 
-abbrev pub namedPart : Bool → Option Parts → Option (Reading Setting)
+abbrev pub namedPart : Bool → Option Parts → Option (Reading Cause Setting)
 namedPart global none = none
 namedPart global (some p) = named (nameOf global (p .front)) (p .back)
 
 -- a field's text as an option, where it is one
-unfoldable pub optionOf : Bool → List ℕ → Option (Reading Setting)
+unfoldable pub optionOf : Bool → List ℕ → Option (Reading Cause Setting)
 optionOf global t = namedPart global (partAt 61 t)
 
 -- a set with one setting
@@ -181,4 +181,4 @@ among ss (some n) = any (λ s. isOption n (whichOption s)) ss
 -- the same option stands twice, argument patterns excepted
 unfoldable pub twice : List Setting → Bool
 twice [] = false
-twice (s ∷ ss) = either (among ss (whichOption s)) (twice ss)
+twice (s ∷ ss) = among ss (whichOption s) || twice ss

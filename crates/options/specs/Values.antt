@@ -1,12 +1,12 @@
 -- What the values of the code stand for.
 use Prim.Native.Nat.{ℕ}
-use mathlib.Core.Bool.{Bool, true, false}
+use mathlib.Core.Bool.{Bool, true, false, cond}
 use mathlib.Core.List.{List, [], _∷_}
 use mathlib.Core.Option.{Option, none, some}
 use lib.IntN.{ℤ}
 use lib.ListN.{take, drop}
-use Rattle.text.specs.Choice.{pick}
 use Rattle.fault.specs.Fault.{Reading, fault, value}
+use Rattle.fault.specs.declared.Cause.{Cause}
 use Rattle.fault.specs.declared.Cause.the-variants.{OptionValue}
 use Rattle.options.specs.declared.ids.IdName.{IdName}
 use Rattle.options.specs.declared.set.Auth.{Auth}
@@ -33,7 +33,7 @@ spanIn (Between m n) = some (range m n)
 
 -- a name, or none
 unfoldable pub idIn : IdName → Option (List ℕ)
-idIn n = pick (n .given) (some (take (n .size) (n .bytes))) none
+idIn n = cond (n .given) (some (take (n .size) (n .bytes))) none
 
 abbrev pub authIn : Auth → Option Bool
 authIn Unset = none
@@ -45,7 +45,7 @@ timeoutIn NoTimeout = none
 timeoutIn (Minutes m) = some m
 
 -- a timeout as it was read: what is none is a bad value
-abbrev pub timeoutRead : Timeout → Reading Setting
+abbrev pub timeoutRead : Timeout → Reading Cause Setting
 timeoutRead NoTimeout = fault OptionValue
 timeoutRead (Minutes m) = value (setTimeout m)
 
@@ -71,7 +71,7 @@ nameIn OfPatterns = some patterns
 nameIn (OfArgument m n) = some (argument (range m n))
 
 -- the setting of a field's text: an id and a pattern begin at a place of it; an id has at most 64 bytes
-abbrev pub settingIn : List ℕ → OptionRead → Option (Reading Setting)
+abbrev pub settingIn : List ℕ → OptionRead → Option (Reading Cause Setting)
 settingIn t NotOption = none
 settingIn t (Faulty c) = some (fault c)
 settingIn t (SetId i at) = some (value (setId i (take 64 (drop at t))))

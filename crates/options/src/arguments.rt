@@ -6,9 +6,8 @@ use pattern::Kind;
 use pattern::matcher::matches_pattern;
 use question::strings::string_end;
 ghost use mathlib.Core.Path.{_≡_};
-ghost use mathlib.Core.Bool.{Bool, false, not};
+ghost use mathlib.Core.Bool.{Bool, false, not, _||_};
 ghost use lib.ListN.{replicate};
-ghost use Rattle.text.specs.Choice.{either};
 ghost use Rattle.text.specs.Lists.{any};
 ghost use Rattle.question.specs.Strings.{stringsIn};
 ghost use Rattle.options.specs.Options.{range};
@@ -30,7 +29,7 @@ fn fails(
     pattern: &[u8],
     argument: &[u8],
 ) -> bool
-    ensures { λ r. ⌜ r ≡ either failed (not (passes position (now (argument .entry)) (patternAt (range first last) (now (pattern .entry))))) ⌝ }
+    ensures { λ r. ⌜ r ≡ failed || not (passes position (now (argument .entry)) (patternAt (range first last) (now (pattern .entry)))) ⌝ }
 {
     if failed {
         return true;

@@ -1,6 +1,6 @@
 // Options: one from a field's text, a set of them laid over another, and what they allow.
+ghost use mathlib.Core.Bool.{_||_};
 ghost use mathlib.Core.Path.{_≡_};
-ghost use Rattle.text.specs.Choice.{either};
 
 pub mod arguments; // which arguments fail an argument pattern
 pub mod ids; // user and group names in options
@@ -20,7 +20,7 @@ pub enum Id {
 }
 
 fn or(a: bool, b: bool) -> bool
-    ensures { λ r. ⌜ r ≡ either a b ⌝ }
+    ensures { λ r. ⌜ r ≡ a || b ⌝ }
 {
     if a { true } else { b }
 }

@@ -1,6 +1,6 @@
 -- The laws of good commands, names, lists of strings and questions.
 use mathlib.Core.Path.{_≡_, refl, sym, ap, _∙_}
-use mathlib.Core.Bool.{Bool, true, false, not}
+use mathlib.Core.Bool.{Bool, true, false, not, cond, _&&_, _||_}
 use mathlib.Core.List.{List, [], _∷_}
 use mathlib.Core.Option.{Option, none, some}
 use Prim.Native.Nat.{ℕ, _+_, _-_, _≤_, _<_}
@@ -9,7 +9,6 @@ use borrow.Author.Tests.{eq-eqb, ne-eqb, le-leb, lt-leb, lt-ltb, le-ltb}
 use lib.Dec.{eqb, ltb}
 use lib.ListN.{length, take, drop, getD, length-drop}
 use lib.Seq.{drop-drop}
-use Rattle.text.specs.Choice.{pick, both, either}
 use Rattle.text.specs.Bytes.{bytes}
 use Rattle.text.specs.Class.{nameByte, printable}
 use Rattle.text.specs.Lists.{all, splitAt, onto}
@@ -38,7 +37,7 @@ component-long (x ∷ []) h = absurd (omega arith)
 component-long (x ∷ (y ∷ [])) h = absurd (omega arith)
 component-long (x ∷ (y ∷ (z ∷ p))) h = go (eqb x 46) (eqb y 46)
   where
-    go : (a b : Bool) → true ≡ not (either (both a false) (both a (both b false)))
+    go : (a b : Bool) → true ≡ not (a && false || a && (b && false))
     go true true = refl
     go true false = refl
     go false b = refl
@@ -60,7 +59,7 @@ component-two [] h e = absurd (omega arith)
 component-two (x ∷ []) h e = absurd (omega arith)
 component-two (x ∷ (y ∷ [])) h e = rw (eq-eqb x 46 e) (go (eqb y 46))
   where
-    go : (b : Bool) → not b ≡ not (both b true)
+    go : (b : Bool) → not b ≡ not (b && true)
     go true = refl
     go false = refl
 component-two (x ∷ (y ∷ (z ∷ p))) h e = absurd (omega arith)
@@ -93,12 +92,12 @@ module _ (s : List ℕ) (from : ℕ) (r : Found) (g : r ≡ findByte 47 0 (take 
     components-on t = rw (parted, t)
 
 -- "not beginning with `/`" is one of the components' rules
-no-slash : (s : List ℕ) → both (not (headIs 47 s)) (all goodComponent (splitAt 47 s)) ≡ all goodComponent (splitAt 47 s)
+no-slash : (s : List ℕ) → not (headIs 47 s) && all goodComponent (splitAt 47 s) ≡ all goodComponent (splitAt 47 s)
 unfolding headIs all splitAt goodComponent
 no-slash [] = refl
 no-slash (b ∷ s) = go (eqb b 47)
   where
-    go : (t : Bool) → both (not t) (all goodComponent (pick t ([] ∷ splitAt 47 s) (onto b (splitAt 47 s)))) ≡ all goodComponent (pick t ([] ∷ splitAt 47 s) (onto b (splitAt 47 s)))
+    go : (t : Bool) → not t && all goodComponent (cond t ([] ∷ splitAt 47 s) (onto b (splitAt 47 s))) ≡ all goodComponent (cond t ([] ∷ splitAt 47 s) (onto b (splitAt 47 s)))
     go true = refl
     go false = refl
 
@@ -155,25 +154,25 @@ arguments-start = pass-start goodArgument 64
 
 -- a question is good where each of its parts is
 module _ (command user groups host : List ℕ) (minute : WeekMinute) (age : LastAuthentication) (args : List ℕ) where
-  pub question-is : isQuestion (questionOf command user groups host minute age args) ≡ both (goodCommand command) (both (goodName 32 user) (both (whenStrings goodGroups (stringsOf groups)) (both (goodName 255 host) (both (ltb (minute .0) 10080) (whenStrings goodArguments (stringsOf args))))))
+  pub question-is : isQuestion (questionOf command user groups host minute age args) ≡ goodCommand command && (goodName 32 user && (whenStrings goodGroups (stringsOf groups) && (goodName 255 host && (ltb (minute .0) 10080 && whenStrings goodArguments (stringsOf args)))))
   unfolding questionOf goodQuestion
   question-is = go (stringsOf groups) (stringsOf args)
     where
-      told : (t : Bool) (q : Question) → isQuestion (pick t (some q) none) ≡ t
+      told : (t : Bool) (q : Question) → isQuestion (cond t (some q) none) ≡ t
       told true q = refl
       told false q = refl
 
-      no : (a b : Bool) → false ≡ both a (both b false)
+      no : (a b : Bool) → false ≡ a && (b && false)
       no true true = refl
       no true false = refl
       no false b = refl
 
-      no5 : (a b c d e : Bool) → false ≡ both a (both b (both c (both d (both e false))))
-      no5 true true c d e = no c d ∙ ap (λ x. both c (both d x)) (sym (both-no e))
+      no5 : (a b c d e : Bool) → false ≡ a && (b && (c && (d && (e && false))))
+      no5 true true c d e = no c d ∙ ap (λ x. c && (d && x)) (sym (both-no e))
       no5 true false c d e = refl
       no5 false b c d e = refl
 
-      go : (g a : Option (List (List ℕ))) → isQuestion (asked command user host (minute .0) age g a) ≡ both (goodCommand command) (both (goodName 32 user) (both (whenStrings goodGroups g) (both (goodName 255 host) (both (ltb (minute .0) 10080) (whenStrings goodArguments a)))))
+      go : (g a : Option (List (List ℕ))) → isQuestion (asked command user host (minute .0) age g a) ≡ goodCommand command && (goodName 32 user && (whenStrings goodGroups g && (goodName 255 host && (ltb (minute .0) 10080 && whenStrings goodArguments a))))
       go none a = no (goodCommand command) (goodName 32 user)
       go (some gs) none = no5 (goodCommand command) (goodName 32 user) (goodGroups gs) (goodName 255 host) (ltb (minute .0) 10080)
       go (some gs) (some xs) = told _ _

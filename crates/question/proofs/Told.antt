@@ -1,6 +1,6 @@
 -- What is known of a question that is good.
 use mathlib.Core.Path.{_≡_, refl, sym, ap, _∙_}
-use mathlib.Core.Bool.{Bool, true, false}
+use mathlib.Core.Bool.{Bool, true, false, cond, _&&_}
 use mathlib.Core.List.{List}
 use mathlib.Core.Option.{Option, none, some}
 use Prim.Native.Nat.{ℕ, _≤_, _<_}
@@ -8,7 +8,6 @@ use native.Mathlib.Omega.{arith}
 use borrow.Author.Tests.{leb-true, ltb-true}
 use lib.Dec.{leb, ltb}
 use lib.ListN.{length}
-use Rattle.text.specs.Choice.{pick, both}
 use Rattle.text.specs.Class.{nameByte, printable}
 use Rattle.text.specs.Lists.{all}
 use Rattle.text.proofs.Laws.{both-true}
@@ -28,7 +27,7 @@ pub record Told (command user groups host : List ℕ) (minute : WeekMinute) (age
   pub its-args : stringsOf args ≡ some (q .args)
   pub good : goodQuestion q ≡ true
 
-picked : (t : Bool) (p q : Question) → pick t (some p) none ≡ some q → (t ≡ true) × (p ≡ q)
+picked : (t : Bool) (p q : Question) → cond t (some p) none ≡ some q → (t ≡ true) × (p ≡ q)
 picked true p q e = (refl, cc)
 picked false p q e = (cc, cc)
 
@@ -73,14 +72,14 @@ module _ (command user groups host : List ℕ) (minute : WeekMinute) (age : Last
 pub name-told : (most : ℕ) (s : List ℕ) → goodName most s ≡ true → (1 ≤ length s) × (length s ≤ most) × (all nameByte s ≡ true)
 unfolding goodName
 name-told most s e =
-    let t = both-true (both (leb 1 (length s)) (leb (length s) most)) (all nameByte s) e in
+    let t = both-true (leb 1 (length s) && leb (length s) most) (all nameByte s) e in
     let u = both-true (leb 1 (length s)) (leb (length s) most) (t .0) in
     (leb-true 1 (length s) (u .0), leb-true (length s) most (u .1), t .1)
 
 pub command-told : (s : List ℕ) → goodCommand s ≡ true → (1 ≤ length s) × (length s ≤ 256) × (all commandByte s ≡ true)
 unfolding goodCommand
 command-told s e =
-    let t = both-true (both (leb 1 (length s)) (leb (length s) 256)) _ e in
+    let t = both-true (leb 1 (length s) && leb (length s) 256) _ e in
     let u = both-true (leb 1 (length s)) (leb (length s) 256) (t .0) in
     (leb-true 1 (length s) (u .0), leb-true (length s) 256 (u .1), both-true (all commandByte s) _ (t .1) .0)
 

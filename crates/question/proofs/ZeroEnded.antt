@@ -1,6 +1,6 @@
 -- The laws of zero-ended strings.
 use mathlib.Core.Path.{_≡_, refl, ap, _∙_}
-use mathlib.Core.Bool.{Bool, true, false}
+use mathlib.Core.Bool.{Bool, true, false, cond, _&&_}
 use mathlib.Core.List.{List, [], _∷_}
 use mathlib.Core.Option.{Option, none, some}
 use Prim.Native.Nat.{ℕ, zero, suc, _+_, _-_, _≤_, _<_}
@@ -10,7 +10,6 @@ use borrow.Author.Tests.{eq-eqb, ne-eqb, le-leb, lt-leb}
 use lib.Dec.{eqb, leb}
 use lib.ListN.{length, take, drop, getD, length-drop, drop-of-length-le}
 use lib.Seq.{drop-drop}
-use Rattle.text.specs.Choice.{pick, both}
 use Rattle.text.specs.Lists.{all}
 use Rattle.text.proofs.Laws.{next, both-no}
 use Rattle.question.specs.Strings.{inFront, stringsOf, whenStrings, into, stringsIn, untilZero}
@@ -50,7 +49,7 @@ strings-first (b ∷ s) h = go (eqb b 0) h (λ k. strings-first s k)
     n : ℕ
     n = untilZero s
 
-    go : (t : Bool) → pick t 0 (suc n) < suc (length s) → (n < length s → stringsOf s ≡ consed (take n s) (stringsOf (drop (suc n) s))) → inFront b t (stringsOf s) ≡ consed (take (pick t 0 (suc n)) (b ∷ s)) (stringsOf (drop (suc (pick t 0 (suc n))) (b ∷ s)))
+    go : (t : Bool) → cond t 0 (suc n) < suc (length s) → (n < length s → stringsOf s ≡ consed (take n s) (stringsOf (drop (suc n) s))) → inFront b t (stringsOf s) ≡ consed (take (cond t 0 (suc n)) (b ∷ s)) (stringsOf (drop (suc (cond t 0 (suc n))) (b ∷ s)))
     go true h f = front-zero b (stringsOf s)
     go false h f = ap (inFront b false) (f (omega arith)) ∙ front-other b (take n s) (stringsOf (drop (suc n) s))
 
@@ -60,12 +59,12 @@ unfolding stringsOf untilZero
 strings-cut [] h e = absurd (omega arith)
 strings-cut (b ∷ []) h e = go (eqb b 0) e
   where
-    go : (t : Bool) → _≡_ {A = ℕ} (pick t 0 1) 1 → inFront b t (some []) ≡ none
+    go : (t : Bool) → _≡_ {A = ℕ} (cond t 0 1) 1 → inFront b t (some []) ≡ none
     go true e = absurd (omega arith)
     go false e = refl
 strings-cut (b ∷ (x ∷ s)) h e = go (eqb b 0) e (λ k. strings-cut (x ∷ s) (omega arith) k)
   where
-    go : (t : Bool) → pick t 0 (suc (untilZero (x ∷ s))) ≡ suc (suc (length s)) → (untilZero (x ∷ s) ≡ suc (length s) → stringsOf (x ∷ s) ≡ none) → inFront b t (stringsOf (x ∷ s)) ≡ none
+    go : (t : Bool) → cond t 0 (suc (untilZero (x ∷ s))) ≡ suc (suc (length s)) → (untilZero (x ∷ s) ≡ suc (length s) → stringsOf (x ∷ s) ≡ none) → inFront b t (stringsOf (x ∷ s)) ≡ none
     go true e f = absurd (omega arith)
     go false e f = rw (f (omega arith))
 
@@ -78,7 +77,7 @@ in-first (b ∷ s) h = go (eqb b 0) h (λ k. in-first s k)
     n : ℕ
     n = untilZero s
 
-    go : (t : Bool) → pick t 0 (suc n) < suc (length s) → (n < length s → stringsIn s ≡ take n s ∷ stringsIn (drop (suc n) s)) → into b t (stringsIn s) ≡ take (pick t 0 (suc n)) (b ∷ s) ∷ stringsIn (drop (suc (pick t 0 (suc n))) (b ∷ s))
+    go : (t : Bool) → cond t 0 (suc n) < suc (length s) → (n < length s → stringsIn s ≡ take n s ∷ stringsIn (drop (suc n) s)) → into b t (stringsIn s) ≡ take (cond t 0 (suc n)) (b ∷ s) ∷ stringsIn (drop (suc (cond t 0 (suc n))) (b ∷ s))
     go true h f = refl
     go false h f = ap (into b false) (f (omega arith))
 
@@ -87,7 +86,7 @@ unfolding stringsIn untilZero
 in-cut [] e = refl
 in-cut (b ∷ s) e = go (eqb b 0) e (λ k. in-cut s k)
   where
-    go : (t : Bool) → pick t 0 (suc (untilZero s)) ≡ suc (length s) → (untilZero s ≡ length s → stringsIn s ≡ []) → into b t (stringsIn s) ≡ []
+    go : (t : Bool) → cond t 0 (suc (untilZero s)) ≡ suc (length s) → (untilZero s ≡ length s → stringsIn s ≡ []) → into b t (stringsIn s) ≡ []
     go true e f = absurd (omega arith)
     go false e f = rw (f (omega arith))
 
@@ -162,10 +161,10 @@ strings-end s i h = rw (drop-of-length-le s)
 
 -- k strings were seen, at most `most` are allowed, and each must pass f
 abbrev pub passFrom : (List ℕ → Bool) → ℕ → ℕ → Option (List (List ℕ)) → Bool
-passFrom f most k o = whenStrings (λ ps. both (leb (k + length ps) most) (all f ps)) o
+passFrom f most k o = whenStrings (λ ps. leb (k + length ps) most && all f ps) o
 
 module _ (f : List ℕ → Bool) (most : ℕ) where
-  pub pass-start : (o : Option (List (List ℕ))) → passFrom f most 0 o ≡ whenStrings (λ ps. both (leb (length ps) most) (all f ps)) o
+  pub pass-start : (o : Option (List (List ℕ))) → passFrom f most 0 o ≡ whenStrings (λ ps. leb (length ps) most && all f ps) o
   pass-start none = refl
   pass-start (some ps) = rw zero-add
 

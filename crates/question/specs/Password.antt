@@ -1,8 +1,7 @@
 -- When a password is needed (01, "Options").
-use mathlib.Core.Bool.{Bool, true, false, not}
+use mathlib.Core.Bool.{Bool, true, false, not, _&&_}
 use lib.IntN.{ℤ, pos}
 use lib.Signed.{leZ, ltZ}
-use Rattle.text.specs.Choice.{both}
 use Rattle.question.specs.declared.Age.{Age}
 use Rattle.question.specs.declared.LastAuthentication.{LastAuthentication}
 use Rattle.question.specs.declared.LastAuthentication.the-variants.{Never, Minutes}
@@ -10,9 +9,9 @@ use Rattle.question.specs.declared.LastAuthentication.the-variants.{Neve
 -- "timeout is above zero and the age is from 0 to timeout"; a stamp from the future is not fresh
 unfoldable pub fresh : ℤ → LastAuthentication → Bool
 fresh timeout Never = false
-fresh timeout (Minutes age) = both (ltZ (pos 0) timeout) (both (leZ (pos 0) (age .0)) (leZ (age .0) timeout))
+fresh timeout (Minutes age) = ltZ (pos 0) timeout && (leZ (pos 0) (age .0) && leZ (age .0) timeout)
 
 -- "A password is needed when auth is y, unless" the last authentication is fresh
 unfoldable pub passwordNeeded : Bool → ℤ → LastAuthentication → Bool
 unfolding fresh
-passwordNeeded auth timeout age = both auth (not (fresh timeout age))
+passwordNeeded auth timeout age = auth && not (fresh timeout age)

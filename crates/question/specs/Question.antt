@@ -1,11 +1,10 @@
 -- The question, and when it is as 01 ("The question") wants it.
 use Prim.Native.Nat.{ℕ}
-use mathlib.Core.Bool.{Bool, true, false, not}
+use mathlib.Core.Bool.{Bool, true, false, not, cond, _&&_, _||_}
 use mathlib.Core.List.{List, [], _∷_}
 use mathlib.Core.Option.{Option, none, some}
 use lib.Dec.{eqb, leb, ltb}
 use lib.ListN.{length}
-use Rattle.text.specs.Choice.{pick, both, either}
 use Rattle.text.specs.Bytes.{bytes}
 use Rattle.text.specs.Lists.{null, all, splitAt}
 use Rattle.text.specs.Class.{within, visible, nameByte, printable}
@@ -27,56 +26,56 @@ pub record Question : Type 0 where
 -- "bytes from 0x21 to 0x7E, no `:`"
 unfoldable pub commandByte : ℕ → Bool
 unfolding visible
-commandByte b = both (visible b) (not (eqb b 58))
+commandByte b = visible b && not (eqb b 58)
 
 -- "no component between slashes that is empty, `.` or `..`"
 unfoldable pub goodComponent : List ℕ → Bool
 unfolding same
-goodComponent p = not (either (null p) (either (same p (bytes ".")) (same p (bytes ".."))))
+goodComponent p = not (null p || (same p (bytes ".") || same p (bytes "..")))
 
 -- "1 to 256 bytes from 0x21 to 0x7E, no `:`; not beginning with `/`"; all pieces that slashes make count, first and last too
 unfoldable pub goodCommand : List ℕ → Bool
 unfolding all commandByte headIs goodComponent splitAt
 goodCommand c =
-    both (within 1 256 (length c))
-    (both (all commandByte c)
-    (both (not (headIs 47 c))
-    (all goodComponent (splitAt 47 c))))
+    within 1 256 (length c)
+    && (all commandByte c
+    && (not (headIs 47 c)
+    && all goodComponent (splitAt 47 c)))
 
 -- 1 to `most` bytes of letters, digits, `.`, `_`, `-`: "user: 1 to 32", "up to 32 groups of the same form", "host: .. 1 to 255 bytes"
 unfoldable pub goodName : ℕ → List ℕ → Bool
 unfolding all nameByte
-goodName most s = both (within 1 most (length s)) (all nameByte s)
+goodName most s = within 1 most (length s) && all nameByte s
 
 -- "up to 32 groups of the same form"
 unfoldable pub goodGroups : List (List ℕ) → Bool
 unfolding all goodName
-goodGroups gs = both (leb (length gs) 32) (all (goodName 32) gs)
+goodGroups gs = leb (length gs) 32 && all (goodName 32) gs
 
 -- "0 to 256 bytes from 0x20 to 0x7E"
 unfoldable pub goodArgument : List ℕ → Bool
 unfolding all printable
-goodArgument a = both (leb (length a) 256) (all printable a)
+goodArgument a = leb (length a) 256 && all printable a
 
 -- "up to 64 arguments"
 unfoldable pub goodArguments : List (List ℕ) → Bool
 unfolding all goodArgument
-goodArguments xs = both (leb (length xs) 64) (all goodArgument xs)
+goodArguments xs = leb (length xs) 64 && all goodArgument xs
 
 -- all that 01 asks of a question; "minute of the week, 0 to 10,079"; any age is good
 unfoldable pub goodQuestion : Question → Bool
 unfolding goodCommand goodName goodGroups goodArguments
 goodQuestion q =
-    both (goodCommand (q .command))
-    (both (goodName 32 (q .user))
-    (both (goodGroups (q .groups))
-    (both (goodName 255 (q .host))
-    (both (ltb (q .minute) 10080)
-    (goodArguments (q .args))))))
+    goodCommand (q .command)
+    && (goodName 32 (q .user)
+    && (goodGroups (q .groups)
+    && (goodName 255 (q .host)
+    && (ltb (q .minute) 10080
+    && goodArguments (q .args)))))
 
 -- the question, if it is good
 abbrev pub ifGood : Question → Option Question
-ifGood q = pick (goodQuestion q) (some q) none
+ifGood q = cond (goodQuestion q) (some q) none
 
 -- the question of its parts, once the groups and the arguments are lists of strings
 abbrev pub asked : (command user host : List ℕ) → ℕ → LastAuthentication → Option (List (List ℕ)) → Option (List (List ℕ)) → Option Question

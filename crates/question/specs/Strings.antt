@@ -1,10 +1,9 @@
 -- Zero-ended strings, one after the other: the form of the groups and of the arguments.
 use Prim.Native.Nat.{ℕ, suc}
-use mathlib.Core.Bool.{Bool, true, false}
+use mathlib.Core.Bool.{Bool, true, false, cond}
 use mathlib.Core.List.{List, [], _∷_}
 use mathlib.Core.Option.{Option, none, some}
 use lib.Dec.{eqb}
-use Rattle.text.specs.Choice.{pick}
 
 -- a byte in front of strings: a zero ends an empty string, any other byte belongs to the first string and needs one
 abbrev pub inFront : ℕ → Bool → Option (List (List ℕ)) → Option (List (List ℕ))
@@ -37,4 +36,4 @@ stringsIn (b ∷ s) = into b (eqb b 0) (stringsIn s)
 -- how many bytes stand before the first zero, or before the end
 unfoldable pub untilZero : List ℕ → ℕ
 untilZero [] = 0
-untilZero (b ∷ s) = pick (eqb b 0) 0 (suc (untilZero s))
+untilZero (b ∷ s) = cond (eqb b 0) 0 (suc (untilZero s))

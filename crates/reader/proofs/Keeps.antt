@@ -1,11 +1,10 @@
 -- A line leaves the decision as it was, or makes the first one, with its own number and end. Assumes nothing.
 use Prim.Native.Nat.{ℕ, zero, suc}
 use mathlib.Core.Path.{_≡_, refl, sym, ap, _∙_}
-use mathlib.Core.Bool.{Bool, true, false, not}
+use mathlib.Core.Bool.{Bool, true, false, not, cond, _||_}
 use mathlib.Core.List.{List, [], _∷_}
 use mathlib.Core.Option.{Option, none, some}
 use native.Mathlib.Omega.{arith}
-use Rattle.text.specs.Choice.{pick, either}
 use Rattle.text.specs.Bytes.{bytes}
 use Rattle.text.specs.Lists.{firstOf, null}
 use Rattle.text.specs.Slice.{same}
@@ -33,18 +32,18 @@ pub record Keeps (line end : ℕ) (s t : State) : Type 0 where
   pub decides : t .decision ≡ firstOf (s .decision) (decisionOf line end own)
 
 -- ---- readings that end well
-pub and-then : {A B : Type 0} (r : Reading A) (f : A → Reading B) (x : B) → andThen r f ≡ value x → (a : A) × (r ≡ value a) × (f a ≡ value x)
+pub and-then : {A B : Type 0} (r : Reading Cause A) (f : A → Reading Cause B) (x : B) → andThen r f ≡ value x → (a : A) × (r ≡ value a) × (f a ≡ value x)
 and-then (fault c) f x e = let z : _≡_ {A = ℕ} 0 1 = cc in absurd (omega arith)
 and-then (value a) f x e = (a, refl, e)
 
-pub un-less : {A : Type 0} (t : Bool) (c : Cause) (r : Reading A) (x : A) → unless t c r ≡ value x → (t ≡ false) × (r ≡ value x)
+pub un-less : {A : Type 0} (t : Bool) (c : Cause) (r : Reading Cause A) (x : A) → unless t c r ≡ value x → (t ≡ false) × (r ≡ value x)
 un-less true c r x e = let z : _≡_ {A = ℕ} 0 1 = cc in absurd (omega arith)
 un-less false c r x e = (refl, e)
 
 never : {A : Type 0} {c : Cause} {x : A} → fault c ≡ value x → ⊥
 never e = let z : _≡_ {A = ℕ} 0 1 = cc in omega arith
 
-same-value : {A : Type 0} {x y : A} → value x ≡ value y → x ≡ y
+same-value : {A : Type 0} {x y : A} → _≡_ {A = Reading Cause A} (value x) (value y) → x ≡ y
 same-value e = cc
 
 first-none : {A : Type 0} (o : Option A) → o ≡ firstOf o none
@@ -55,7 +54,7 @@ module _ (line end : ℕ) where
   unchanged : (s t : State) → t .decision ≡ s .decision → Keeps line end s t
   unchanged s t e = record { own = none; decides = e ∙ first-none (s .decision) }
 
-  stays : {s t : State} → value s ≡ value t → Keeps line end s t
+  stays : {s t : State} → _≡_ {A = Reading Cause State} (value s) (value t) → Keeps line end s t
   stays {s} {t} e = unchanged s t (ap (λ x. x .decision) (sym (same-value e)))
 
   -- ---- `:define`
@@ -89,7 +88,7 @@ module _ (line end : ℕ) where
       unchanged s t (ap (λ x. x .decision) (sym (same-value (w .1))))
 
   -- ---- `:if`, where what is read deeper keeps the decision
-  module _ (deeper : List (List ℕ) → Reading State) (s t : State) (k : (fs : List (List ℕ)) → deeper fs ≡ value t → Keeps line end s t) where
+  module _ (deeper : List (List ℕ) → Reading Cause State) (s t : State) (k : (fs : List (List ℕ)) → deeper fs ≡ value t → Keeps line end s t) where
     by-rest : (taken : Bool) (fs : List (List ℕ)) → restIf deeper s taken fs ≡ value t → Keeps line end s t
     by-rest taken [] e = absurd (never e)
     by-rest true (f ∷ fs) e = k (f ∷ fs) e
@@ -112,21 +111,21 @@ module _ (line end : ℕ) where
     by-if sc (f ∷ fs) e = let u = and-then (fieldText sc f) _ t e in by-operator sc (u .0) fs (u .2)
 
   -- what is read deeper keeps the decision, if anything is
-  abbrev Deeper : Option (List (List ℕ) → Reading State) → State → State → Type 0
+  abbrev Deeper : Option (List (List ℕ) → Reading Cause State) → State → State → Type 0
   Deeper none s t = Unit {0}
   Deeper (some f) s t = (fs : List (List ℕ)) → f fs ≡ value t → Keeps line end s t
 
-  by-depth : (sc : Scope) (deeper : Option (List (List ℕ) → Reading State)) (s t : State) → Deeper deeper s t → (fs : List (List ℕ)) → ifLine sc deeper s fs ≡ value t → Keeps line end s t
+  by-depth : (sc : Scope) (deeper : Option (List (List ℕ) → Reading Cause State)) (s t : State) → Deeper deeper s t → (fs : List (List ℕ)) → ifLine sc deeper s fs ≡ value t → Keeps line end s t
   unfolding ifLine
   by-depth sc none s t k fs e = absurd (never e)
   by-depth sc (some f) s t k fs e = by-if f s t k sc fs e
 
   -- ---- the colon words
-  by-word : (sc : Scope) (deeper : Option (List (List ℕ) → Reading State)) (s t : State) → Deeper deeper s t → (fs : List (List ℕ)) (w : List ℕ) → colonWord sc deeper s fs w ≡ value t → Keeps line end s t
+  by-word : (sc : Scope) (deeper : Option (List (List ℕ) → Reading Cause State)) (s t : State) → Deeper deeper s t → (fs : List (List ℕ)) (w : List ℕ) → colonWord sc deeper s fs w ≡ value t → Keeps line end s t
   unfolding colonWord
-  by-word sc deeper s t k fs w e = go (same w (bytes ":define")) (either (same w (bytes ":global")) (same w (bytes ":global_options"))) (same w (bytes ":if")) e
+  by-word sc deeper s t k fs w e = go (same w (bytes ":define")) (same w (bytes ":global") || same w (bytes ":global_options")) (same w (bytes ":if")) e
     where
-      go : (a b c : Bool) → pick a (defineLine sc s fs) (pick b (globalLine sc s fs) (pick c (ifLine sc deeper s fs) (fault ColonWord))) ≡ value t → Keeps line end s t
+      go : (a b c : Bool) → cond a (defineLine sc s fs) (cond b (globalLine sc s fs) (cond c (ifLine sc deeper s fs) (fault ColonWord))) ≡ value t → Keeps line end s t
       go true b c x = by-define sc s t fs x
       go false true c x = by-global sc s t fs x
       go false false true x = by-depth sc deeper s t k fs x
@@ -141,7 +140,7 @@ module _ (line end : ℕ) where
         let v = and-then (entryOf q (scopeOf q s) fs) _ t (u .1) in
         record { own = verdictOf q (s .options) (s .arguments) (v .0); decides = ap (λ x. x .decision) (sym (same-value (v .2))) }
 
-    by-kind : (deeper : Option (List (List ℕ) → Reading State)) (s t : State) → Deeper deeper s t → (fs : List (List ℕ)) (k : LineKind) → byKind q line end deeper s fs k ≡ value t → Keeps line end s t
+    by-kind : (deeper : Option (List (List ℕ) → Reading Cause State)) (s t : State) → Deeper deeper s t → (fs : List (List ℕ)) (k : LineKind) → byKind q line end deeper s fs k ≡ value t → Keeps line end s t
     by-kind deeper s t d fs NoField e = stays e
     by-kind deeper s t d [] Colon e = stays e
     by-kind deeper s t d (f ∷ fs) Colon e = let u = and-then (fieldText (scopeOf q s) f) _ t e in by-word (scopeOf q s) deeper s t d fs (u .0) (u .2)

@@ -1,15 +1,15 @@
 -- Lines that begin with a colon: `:define`, `:global`, `:if` (01, "Lines that begin with a colon").
 use Prim.Native.Nat.{ℕ}
-use mathlib.Core.Bool.{Bool, true, false, not}
+use mathlib.Core.Bool.{Bool, true, false, not, cond, _||_}
 use mathlib.Core.List.{List, [], _∷_}
 use mathlib.Core.Option.{Option, none, some}
 use lib.Dec.{ltb}
 use lib.ListN.{length}
-use Rattle.text.specs.Choice.{pick, either}
 use Rattle.text.specs.Bytes.{bytes}
 use Rattle.text.specs.Lists.{null}
 use Rattle.text.specs.Slice.{same}
 use Rattle.fault.specs.Fault.{Reading, fault, value, andThen, readAll, needed, unless}
+use Rattle.fault.specs.declared.Cause.{Cause}
 use Rattle.fault.specs.declared.Cause.the-variants.{NameLength, TextLength, IfDepth, OptionName, ColonWord, DefineName, Operator, SurplusField, MissingPart, OptionTwice, TooManyNames}
 use Rattle.variables.specs.Scope.{Scope, Definition, definition, define, isName, builtIn, tooMany}
 use Rattle.variables.specs.Substitute.{fieldText}
@@ -17,37 +17,37 @@ use Rattle.options.specs.Read.{Setting, optionOf, twice}
 use Rattle.reader.specs.State.{State, withDefinition, withSettings}
 
 -- a name's size, then its form; built-in names can't be redefined
-unfoldable pub defineName : List ℕ → Reading (List ℕ)
-defineName n = unless (ltb 64 (length n)) NameLength (unless (either (not (isName n)) (builtIn n)) DefineName (value n))
+unfoldable pub defineName : List ℕ → Reading Cause (List ℕ)
+defineName n = unless (ltb 64 (length n)) NameLength (unless (not (isName n) || builtIn n) DefineName (value n))
 
-unfoldable pub defineText : List ℕ → Reading (List ℕ)
+unfoldable pub defineText : List ℕ → Reading Cause (List ℕ)
 defineText t = unless (ltb 256 (length t)) TextLength (value t)
 
 -- nothing stands behind the text; last of all, more than 64 names
-abbrev pub defined : Scope → State → Definition → List (List ℕ) → Reading State
+abbrev pub defined : Scope → State → Definition → List (List ℕ) → Reading Cause State
 defined sc s d [] = unless (tooMany (define d (s .definitions))) TooManyNames (value (withDefinition d s))
 defined sc s d (f ∷ fs) = andThen (fieldText sc f) (λ t. fault SurplusField)
 
-abbrev pub textAfter : Scope → State → List ℕ → List (List ℕ) → Reading State
+abbrev pub textAfter : Scope → State → List ℕ → List (List ℕ) → Reading Cause State
 textAfter sc s n [] = fault MissingPart
 textAfter sc s n (f ∷ fs) = andThen (fieldText sc f) (λ t. andThen (defineText t) (λ u. defined sc s (definition n u) fs))
 
 -- `:define NAME text`
-unfoldable pub defineLine : Scope → State → List (List ℕ) → Reading State
+unfoldable pub defineLine : Scope → State → List (List ℕ) → Reading Cause State
 defineLine sc s [] = fault MissingPart
 defineLine sc s (f ∷ fs) = andThen (fieldText sc f) (λ t. andThen (defineName t) (λ n. textAfter sc s n fs))
 
 -- a field that is no option is malformed
-abbrev pub globalField : Scope → List ℕ → Reading Setting
+abbrev pub globalField : Scope → List ℕ → Reading Cause Setting
 globalField sc f = andThen (fieldText sc f) (λ t. needed OptionName (optionOf true t) (λ r. r))
 
 -- `:global` with options only, at least one
-unfoldable pub globalLine : Scope → State → List (List ℕ) → Reading State
+unfoldable pub globalLine : Scope → State → List (List ℕ) → Reading Cause State
 globalLine sc s fs = andThen (readAll (globalField sc) fs) (λ ss. unless (null ss) MissingPart (unless (twice ss) OptionTwice (value (withSettings ss s))))
 
 -- an operator tells whether equal bytes take the rest
-unfoldable pub operatorOf : List ℕ → Reading Bool
-operatorOf t = pick (same t (bytes "==")) (value true) (pick (same t (bytes "!=")) (value false) (fault Operator))
+unfoldable pub operatorOf : List ℕ → Reading Cause Bool
+operatorOf t = cond (same t (bytes "==")) (value true) (cond (same t (bytes "!=")) (value false) (fault Operator))
 
 -- whether the bytes compare as the operator says
 abbrev pub holds : Bool → List ℕ → List ℕ → Bool
@@ -55,29 +55,29 @@ holds true a b = same a b
 holds false a b = not (same a b)
 
 -- the rest is not empty; it is read where the comparison holds
-abbrev pub restIf : (List (List ℕ) → Reading State) → State → Bool → List (List ℕ) → Reading State
+abbrev pub restIf : (List (List ℕ) → Reading Cause State) → State → Bool → List (List ℕ) → Reading Cause State
 restIf deeper s taken [] = fault MissingPart
 restIf deeper s true (f ∷ fs) = deeper (f ∷ fs)
 restIf deeper s false (f ∷ fs) = value s
 
-abbrev pub rightAfter : Scope → (List (List ℕ) → Reading State) → State → List ℕ → Bool → List (List ℕ) → Reading State
+abbrev pub rightAfter : Scope → (List (List ℕ) → Reading Cause State) → State → List ℕ → Bool → List (List ℕ) → Reading Cause State
 rightAfter sc deeper s a o [] = fault MissingPart
 rightAfter sc deeper s a o (f ∷ fs) = andThen (fieldText sc f) (λ b. restIf deeper s (holds o a b) fs)
 
-abbrev pub operatorAfter : Scope → (List (List ℕ) → Reading State) → State → List ℕ → List (List ℕ) → Reading State
+abbrev pub operatorAfter : Scope → (List (List ℕ) → Reading Cause State) → State → List ℕ → List (List ℕ) → Reading Cause State
 operatorAfter sc deeper s a [] = fault MissingPart
 operatorAfter sc deeper s a (f ∷ fs) = andThen (fieldText sc f) (λ t. andThen (operatorOf t) (λ o. rightAfter sc deeper s a o fs))
 
 -- `:if A == B rest`, with a reader for the rest; none where it stands too deep
-unfoldable pub ifLine : Scope → Option (List (List ℕ) → Reading State) → State → List (List ℕ) → Reading State
+unfoldable pub ifLine : Scope → Option (List (List ℕ) → Reading Cause State) → State → List (List ℕ) → Reading Cause State
 ifLine sc none s fs = fault IfDepth
 ifLine sc (some deeper) s [] = fault MissingPart
 ifLine sc (some deeper) s (f ∷ fs) = andThen (fieldText sc f) (λ a. operatorAfter sc deeper s a fs)
 
 -- any other colon word is malformed
-unfoldable pub colonWord : Scope → Option (List (List ℕ) → Reading State) → State → List (List ℕ) → List ℕ → Reading State
+unfoldable pub colonWord : Scope → Option (List (List ℕ) → Reading Cause State) → State → List (List ℕ) → List ℕ → Reading Cause State
 colonWord sc deeper s fs w =
-    pick (same w (bytes ":define")) (defineLine sc s fs)
-    (pick (either (same w (bytes ":global")) (same w (bytes ":global_options"))) (globalLine sc s fs)
-    (pick (same w (bytes ":if")) (ifLine sc deeper s fs)
+    cond (same w (bytes ":define")) (defineLine sc s fs)
+    (cond (same w (bytes ":global") || same w (bytes ":global_options")) (globalLine sc s fs)
+    (cond (same w (bytes ":if")) (ifLine sc deeper s fs)
     (fault ColonWord)))

@@ -20,21 +20,21 @@ use Rattle.reader.specs.State.{State, scopeOf, withEntry}
 use Rattle.reader.specs.Colon.{colonWord}
 
 -- an entry met before `patterns=shell` is a fault ahead of any in its fields
-unfoldable pub entryLine : Question → ℕ → ℕ → State → List (List ℕ) → Reading State
+unfoldable pub entryLine : Question → ℕ → ℕ → State → List (List ℕ) → Reading Cause State
 entryLine q line end s fs = unless (not (s .shell)) EntryTooEarly (andThen (entryOf q (scopeOf q s) fs) (λ e. value (withEntry q line end e s)))
 
 -- the first field is the colon word
-abbrev pub colonLine : Question → Option (List (List ℕ) → Reading State) → State → List (List ℕ) → Reading State
+abbrev pub colonLine : Question → Option (List (List ℕ) → Reading Cause State) → State → List (List ℕ) → Reading Cause State
 colonLine q deeper s [] = value s
 colonLine q deeper s (f ∷ fs) = andThen (fieldText (scopeOf q s) f) (λ w. colonWord (scopeOf q s) deeper s fs w)
 
-abbrev pub byKind : Question → ℕ → ℕ → Option (List (List ℕ) → Reading State) → State → List (List ℕ) → LineKind → Reading State
+abbrev pub byKind : Question → ℕ → ℕ → Option (List (List ℕ) → Reading Cause State) → State → List (List ℕ) → LineKind → Reading Cause State
 byKind q line end deeper s fs NoField = value s
 byKind q line end deeper s fs ColonKind = colonLine q deeper s fs
 byKind q line end deeper s fs EntryKind = entryLine q line end s fs
 
 -- the fields of a control line, with the depth left for `:if`: to a depth of 4
-unfoldable pub fieldsRead : ℕ → Question → ℕ → ℕ → State → List (List ℕ) → Reading State
+unfoldable pub fieldsRead : ℕ → Question → ℕ → ℕ → State → List (List ℕ) → Reading Cause State
 fieldsRead zero q line end s fs = byKind q line end none s fs (kindOf fs)
 fieldsRead (suc d) q line end s fs = byKind q line end (some (λ rest. fieldsRead d q line end s rest)) s fs (kindOf fs)
 
@@ -45,10 +45,10 @@ lineCause BadIndent = Indent
 lineCause BadQuote = OpenQuote
 lineCause ManyFields = FieldCount
 
-abbrev pub scannedRead : Question → ℕ → ℕ → State → Scanned → Reading State
+abbrev pub scannedRead : Question → ℕ → ℕ → State → Scanned → Reading Cause State
 scannedRead q line end s (scanFault f) = fault (lineCause f)
 scannedRead q line end s (fields fs) = fieldsRead 4 q line end s fs
 
 -- a control line: joined length, indents, quotes, number of fields, then fields left to right, then the whole line
-unfoldable pub lineRead : Question → State → Line → Reading State
+unfoldable pub lineRead : Question → State → Line → Reading Cause State
 lineRead q s l = scannedRead q (l .number) (l .end) s (scanned (l .bytes))

@@ -1,9 +1,8 @@
 -- What is kept from line to line: variables, options and argument patterns in force, whether `patterns=shell` was read, and the decision once made.
 use Prim.Native.Nat.{ℕ}
-use mathlib.Core.Bool.{Bool, true, false}
+use mathlib.Core.Bool.{Bool, true, false, _||_}
 use mathlib.Core.List.{List, [], _∷_, _++_}
 use mathlib.Core.Option.{Option, none, some}
-use Rattle.text.specs.Choice.{either}
 use Rattle.text.specs.Lists.{firstOf}
 use Rattle.question.specs.Question.{Question}
 use Rattle.variables.specs.Scope.{Scope, Definition, define}
@@ -43,7 +42,7 @@ withSettings ss s = record {
   definitions = s .definitions;
   options = over (optionsOf ss) (s .options);
   arguments = s .arguments ++ argumentsOf ss;
-  shell = either (s .shell) (hasShell ss);
+  shell = s .shell || hasShell ss;
   decision = s .decision;
 }
 

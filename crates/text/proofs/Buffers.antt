@@ -1,7 +1,7 @@
 -- The laws of bytes laid into a buffer, for functions that write one after the other.
 use mathlib.Core.Path.{_≡_, refl, sym, ap, _∙_}
 use mathlib.Core.List.{List, [], _∷_, _++_}
-use mathlib.Core.Bool.{Bool, true, false}
+use mathlib.Core.Bool.{Bool, true, false, cond}
 use Prim.Native.Nat.{ℕ, suc, _+_, _≤_, _<_}
 use native.Mathlib.Nat.{add-zero}
 use native.Mathlib.Numerals.{add-one}
@@ -11,7 +11,6 @@ use lib.ListN.{length, getD, drop, take, set, length-set, length-append, drop-of
 use lib.Seq.{set-out, sets, sets-eq, take-suc-set, drop-set-lt, drop-drop, take-at, length-take-le}
 use lib.Dec.{leb}
 use Rattle.text.proofs.Laws.{next}
-use Rattle.text.specs.Choice.{pick}
 use Rattle.text.specs.declared.buffer.Filled.{Filled}
 use Rattle.text.specs.declared.buffer.Filled.the-variants.{Done, Full}
 use Rattle.text.specs.Buffer.{laid, upTo, Wrote}
@@ -72,11 +71,11 @@ unfolding upTo
 full-up size m h = rw (lt-leb m size h)
 
 -- what an answer tells: by the Bool of the test
-told-done : (t : Bool) (m k : ℕ) → pick t (Done m) Full ≡ Done k → (t ≡ true) × (k ≡ m)
+told-done : (t : Bool) (m k : ℕ) → cond t (Done m) Full ≡ Done k → (t ≡ true) × (k ≡ m)
 told-done true m k e = (refl, cc)
 told-done false m k e = (cc, cc)
 
-told-full : (t : Bool) (m : ℕ) → pick t (Done m) Full ≡ Full → t ≡ false
+told-full : (t : Bool) (m : ℕ) → cond t (Done m) Full ≡ Full → t ≡ false
 told-full true m e = cc
 told-full false m e = refl
 

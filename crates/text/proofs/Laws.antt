@@ -1,15 +1,15 @@
 -- General laws of lists, of choices and of computed tables.
 use mathlib.Core.Path.{_≡_, refl, sym, ap, _∙_}
-use mathlib.Core.Bool.{Bool, true, false, not}
+use mathlib.Core.Bool.{Bool, true, false, not, cond, _&&_, _||_}
 use mathlib.Core.List.{List, [], _∷_, _++_, map}
 use mathlib.Core.Logic.{_⊎_, inl, inr}
-use Prim.Native.Nat.{ℕ, zero, suc, _+_, _-_, _≤_, _<_}
+use Prim.Native.Nat.{ℕ, zero, suc, _+_, _-_, _≤_, _<_, min}
 use native.Mathlib.Omega.{arith}
+use native.Mathlib.Decide.{decLe}
 use native.Mathlib.Nat.{le-of-suc-le-suc, not-suc-le-zero}
 use native.Mathlib.Numerals.{add-one}
-use lib.ListN.{length, getD, take, drop, length-take, length-drop, take-append-drop}
+use lib.ListN.{length, getD, take, drop, length-take, length-drop, length-map, take-append-drop}
 use lib.Seq.{drop-cons, drop-drop, take-all, take-take, take-nil, getD-take, getD-drop}
-use Rattle.text.specs.Choice.{pick, both, either}
 
 -- the next element, by the code's `i + 1`
 pub next-of : {A : Type 0} (z : A) (s : List A) (i : ℕ) → i < length s → drop i s ≡ getD s i z ∷ drop (i + 1) s
@@ -20,83 +20,83 @@ pub next : (s : List ℕ) (i : ℕ) → i < length s → drop i s ≡ getD s i 0
 next = next-of 0
 
 -- what holds of both choices holds of the chosen one
-pub pick-of : {X : Type 0} (P : X → Type 0) (t : Bool) {x y : X} → P x → P y → P (pick t x y)
+pub pick-of : {X : Type 0} (P : X → Type 0) (t : Bool) {x y : X} → P x → P y → P (cond t x y)
 pick-of P true p q = p
 pick-of P false p q = q
 
-pub pick-both : {X : Type 0} (t : Bool) (x : X) → pick t x x ≡ x
+pub pick-both : {X : Type 0} (t : Bool) (x : X) → cond t x x ≡ x
 pick-both true x = refl
 pick-both false x = refl
 
 -- a choice that says something else than y was x
-pub pick-told : {X : Type 0} (t : Bool) (x y : X) → (pick t x y ≡ y → ⊥) → t ≡ true
+pub pick-told : {X : Type 0} (t : Bool) (x y : X) → (cond t x y ≡ y → ⊥) → t ≡ true
 pick-told true x y h = refl
 pick-told false x y h = absurd (h refl)
 
-pub pick-ap : {X Y : Type 0} (f : X → Y) (t : Bool) (x y : X) → f (pick t x y) ≡ pick t (f x) (f y)
+pub pick-ap : {X Y : Type 0} (f : X → Y) (t : Bool) (x y : X) → f (cond t x y) ≡ cond t (f x) (f y)
 pick-ap f true x y = refl
 pick-ap f false x y = refl
 
-pub both-true : (a b : Bool) → both a b ≡ true → (a ≡ true) × (b ≡ true)
+pub both-true : (a b : Bool) → a && b ≡ true → (a ≡ true) × (b ≡ true)
 both-true true b e = (refl, e)
 both-true false b e = (e, cc)
 
-pub both-of : {a b : Bool} → a ≡ true → b ≡ true → both a b ≡ true
+pub both-of : {a b : Bool} → a ≡ true → b ≡ true → a && b ≡ true
 both-of e f = rw (e, f)
 
-pub both-no : (t : Bool) → both t false ≡ false
+pub both-no : (t : Bool) → t && false ≡ false
 both-no true = refl
 both-no false = refl
 
-pub both-yes : (t : Bool) → both t true ≡ t
+pub both-yes : (t : Bool) → t && true ≡ t
 both-yes true = refl
 both-yes false = refl
 
-pub both-assoc : (a b c : Bool) → both (both a b) c ≡ both a (both b c)
+pub both-assoc : (a b c : Bool) → a && b && c ≡ a && (b && c)
 both-assoc true b c = refl
 both-assoc false b c = refl
 
-pub both-swap : (a b : Bool) → both a b ≡ both b a
+pub both-swap : (a b : Bool) → a && b ≡ b && a
 both-swap true b = sym (both-yes b)
 both-swap false b = sym (both-no b)
 
-pub both-false : (a b : Bool) → both a b ≡ false → (a ≡ false) ⊎ (b ≡ false)
+pub both-false : (a b : Bool) → a && b ≡ false → (a ≡ false) ⊎ (b ≡ false)
 both-false true b e = inr e
 both-false false b e = inl refl
 
-pub either-no : (t : Bool) → either t false ≡ t
+pub either-no : (t : Bool) → t || false ≡ t
 either-no true = refl
 either-no false = refl
 
-pub either-yes : (t : Bool) → either t true ≡ true
+pub either-yes : (t : Bool) → t || true ≡ true
 either-yes true = refl
 either-yes false = refl
 
-pub either-of : (a b : Bool) → b ≡ true → either a b ≡ true
+pub either-of : (a b : Bool) → b ≡ true → a || b ≡ true
 either-of true b e = refl
 either-of false b e = e
 
-pub either-false : (a b : Bool) → either a b ≡ false → (a ≡ false) × (b ≡ false)
+pub either-false : (a b : Bool) → a || b ≡ false → (a ≡ false) × (b ≡ false)
 either-false true b e = (cc, cc)
 either-false false b e = (refl, e)
 
-pub either-true : (a b : Bool) → either a b ≡ true → (a ≡ true) ⊎ (b ≡ true)
+pub either-true : (a b : Bool) → a || b ≡ true → (a ≡ true) ⊎ (b ≡ true)
 either-true true b e = inl refl
 either-true false b e = inr e
 
-pub either-assoc : (a b c : Bool) → either (either a b) c ≡ either a (either b c)
+pub either-assoc : (a b c : Bool) → a || b || c ≡ a || (b || c)
 either-assoc true b c = refl
 either-assoc false b c = refl
 
-pub either-swap : (a b : Bool) → either a b ≡ either b a
+pub either-swap : (a b : Bool) → a || b ≡ b || a
 either-swap true b = sym (either-yes b)
 either-swap false b = sym (either-no b)
 
-pub not-both : (a b : Bool) → not (both a b) ≡ either (not a) (not b)
+pub not-both : (a b : Bool) → not (a && b) ≡ not a || not b
 not-both true b = refl
 not-both false b = refl
 
-pub not-either : (a b : Bool) → not (either a b) ≡ both (not a) (not b)
+pub not-either : (a b : Bool) → not (a || b) ≡ not a && not b
 not-either true b = refl
 not-either false b = refl
 
@@ -199,3 +199,31 @@ module _ {A : Type 0} (s : List A) (a e : ℕ) where
       let z : a + f - (a + b) ≡ f - b = omega arith in
       let k : f - b ≤ e - a - b = omega arith in
       rw (drop-take b (e - a) (drop a s), take-take (f - b) (e - a - b) (drop b (drop a s)) k, drop-drop b a s, z)
+
+-- an impossible equation proves anything: `clash cc` where constructors differ
+pub clash : {A : Type 0} → _≡_ {A = ℕ} 0 1 → A
+clash z = absurd (omega arith)
+
+-- the length of a list is that of what a function makes of it
+pub unmapped : {A B : Type 0} (f : A → B) (l : List A) (n : ℕ) → length (map f l) ≡ n → length l ≡ n
+unmapped f l n e = sym (length-map l f) ∙ e
+
+-- a length that is clamped takes the same
+pub take-min : {A : Type 0} (n m : ℕ) (l : List A) → length l ≤ m → take (min n m) l ≡ take n l
+take-min n m l h = elim (decLe n m) [ yes g ↦ small (omega arith) | no g ↦ large (omega arith) (omega arith) ]
+  where
+    small : min n m ≡ n → take (min n m) l ≡ take n l
+    small e = rw e
+
+    large : min n m ≡ m → length l ≤ n → take (min n m) l ≡ take n l
+    large e g = rw (e, take-all m l h, take-all n l g)
+
+-- a clamped length of a list takes what the limit takes
+pub take-most : {A : Type 0} (m : ℕ) (l : List A) → take (min (length l) m) l ≡ take m l
+take-most m l = elim (decLe (length l) m) [ yes g ↦ small (omega arith) (omega arith) | no g ↦ large (omega arith) ]
+  where
+    small : min (length l) m ≡ length l → length l ≤ m → take (min (length l) m) l ≡ take m l
+    small e h = rw (e, take-all (length l) l (omega arith), take-all m l h)
+
+    large : min (length l) m ≡ m → take (min (length l) m) l ≡ take m l
+    large e = rw e

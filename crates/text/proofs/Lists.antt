@@ -1,6 +1,6 @@
 -- The laws of the list functions, and of a text parted at a byte.
 use mathlib.Core.Path.{_≡_, refl, sym, ap, _∙_}
-use mathlib.Core.Bool.{Bool, true, false, not}
+use mathlib.Core.Bool.{Bool, true, false, not, cond, _&&_, _||_}
 use mathlib.Core.List.{List, [], _∷_, _++_, append-nil}
 use mathlib.Core.Option.{Option, none, some}
 use Prim.Native.Nat.{ℕ, zero, suc, _+_, _≤_, _<_}
@@ -9,7 +9,6 @@ use borrow.Author.Tests.{eq-eqb, ne-eqb, eqb-true, not-true}
 use lib.Dec.{eqb}
 use lib.Seq.{getD-take}
 use lib.ListN.{length, length-take, take, drop, getD, drop-of-length-le, take-append-drop}
-use Rattle.text.specs.Choice.{pick, both, either}
 use Rattle.text.specs.Lists.{all, any, count, firstOf, firstFault, has, onto, splitAt}
 use Rattle.text.specs.Slice.{findByte}
 use Rattle.text.specs.Parts.{partAt}
@@ -45,12 +44,12 @@ module _ {A : Type 0} (f : A → Bool) (s : List A) (i : ℕ) where
   any-end h = rw (drop-of-length-le s)
 
 module _ {A : Type 0} (f : A → Bool) where
-  pub all-append : (xs ys : List A) → all f (xs ++ ys) ≡ both (all f xs) (all f ys)
+  pub all-append : (xs ys : List A) → all f (xs ++ ys) ≡ all f xs && all f ys
   unfolding all
   all-append [] ys = refl
   all-append (x ∷ xs) ys = rw (all-append xs ys) (sym (both-assoc (f x) (all f xs) (all f ys)))
 
-  pub any-append : (xs ys : List A) → any f (xs ++ ys) ≡ either (any f xs) (any f ys)
+  pub any-append : (xs ys : List A) → any f (xs ++ ys) ≡ any f xs || any f ys
   unfolding any
   any-append [] ys = refl
   any-append (x ∷ xs) ys = rw (any-append xs ys) (sym (either-assoc (f x) (any f xs) (any f ys)))
@@ -60,7 +59,7 @@ module _ {A : Type 0} (f : A → Bool) where
   count-append [] ys = omega arith
   count-append (x ∷ xs) ys = go (f x) (count-append xs ys)
     where
-      go : (t : Bool) → count f (xs ++ ys) ≡ count f xs + count f ys → pick t (suc (count f (xs ++ ys))) (count f (xs ++ ys)) ≡ pick t (suc (count f xs)) (count f xs) + count f ys
+      go : (t : Bool) → count f (xs ++ ys) ≡ count f xs + count f ys → cond t (suc (count f (xs ++ ys))) (count f (xs ++ ys)) ≡ cond t (suc (count f xs)) (count f xs) + count f ys
       go true e = omega arith
       go false e = e
 
@@ -69,12 +68,12 @@ module _ {A : Type 0} (f : A → Bool) where
   count-most [] = omega arith
   count-most (x ∷ xs) = go (f x) (count-most xs)
     where
-      go : (t : Bool) → count f xs ≤ length xs → pick t (suc (count f xs)) (count f xs) ≤ suc (length xs)
+      go : (t : Bool) → count f xs ≤ length xs → cond t (suc (count f xs)) (count f xs) ≤ suc (length xs)
       go true h = omega arith
       go false h = omega arith
 
   -- a turn of a loop that counts
-  pub count-next : (z : A) (s : List A) (i : ℕ) → i < length s → count f (drop i s) ≡ pick (f (getD s i z)) (suc (count f (drop (i + 1) s))) (count f (drop (i + 1) s))
+  pub count-next : (z : A) (s : List A) (i : ℕ) → i < length s → count f (drop i s) ≡ cond (f (getD s i z)) (suc (count f (drop (i + 1) s))) (count f (drop (i + 1) s))
   unfolding count
   count-next z s i h = rw (next-of z s i)
 
@@ -82,12 +81,12 @@ module _ {A : Type 0} (f : A → Bool) where
   pub any-not : (xs : List A) → not (any f xs) ≡ all (λ x. not (f x)) xs
   unfolding any all
   any-not [] = refl
-  any-not (x ∷ xs) = not-either (f x) (any f xs) ∙ ap (both (not (f x))) (any-not xs)
+  any-not (x ∷ xs) = not-either (f x) (any f xs) ∙ ap (_&&_ (not (f x))) (any-not xs)
 
   pub all-not : (xs : List A) → not (all f xs) ≡ any (λ x. not (f x)) xs
   unfolding any all
   all-not [] = refl
-  all-not (x ∷ xs) = not-both (f x) (all f xs) ∙ ap (either (not (f x))) (all-not xs)
+  all-not (x ∷ xs) = not-both (f x) (all f xs) ∙ ap (_||_ (not (f x))) (all-not xs)
 
   pub all-at : (z : A) (s : List A) (i : ℕ) → i < length s → all f s ≡ true → f (getD s i z) ≡ true
   unfolding all
@@ -156,7 +155,7 @@ module _ {A B : Type 0} (f : B → Option A) where
   fault-none z (x ∷ s) zero e h = first-none-told (f x) (firstFault f s) e .0
   fault-none z (x ∷ s) (suc i) e h = fault-none z s i (first-none-told (f x) (firstFault f s) e .1) (omega arith)
 
-pub has-append : (c : ℕ) (xs ys : List ℕ) → has c (xs ++ ys) ≡ either (has c xs) (has c ys)
+pub has-append : (c : ℕ) (xs ys : List ℕ) → has c (xs ++ ys) ≡ has c xs || has c ys
 unfolding has
 has-append c = any-append (λ b. eqb b c)
 
@@ -199,7 +198,7 @@ split-length c (b ∷ s) = go (eqb b c) (split-length c s)
     n : ℕ
     n = count (λ x. eqb x c) s
 
-    go : (t : Bool) → length (splitAt c s) ≡ suc n → length (pick t ([] ∷ splitAt c s) (onto b (splitAt c s))) ≡ suc (pick t (suc n) n)
+    go : (t : Bool) → length (splitAt c s) ≡ suc n → length (cond t ([] ∷ splitAt c s) (onto b (splitAt c s))) ≡ suc (cond t (suc n) n)
     go true e = ap suc e
     go false e = onto-length b (splitAt c s) (omega arith) ∙ e
 
@@ -234,7 +233,7 @@ unfolding splitAt
 split-join c [] = refl
 split-join c (b ∷ s) = go (eqb b c) refl (splitAt c s) (rw split-length (omega arith)) (split-join c s)
   where
-    go : (t : Bool) → eqb b c ≡ t → (ps : List (List ℕ)) → 0 < length ps → joined c ps ≡ s → joined c (pick t ([] ∷ ps) (onto b ps)) ≡ b ∷ s
+    go : (t : Bool) → eqb b c ≡ t → (ps : List (List ℕ)) → 0 < length ps → joined c ps ≡ s → joined c (cond t ([] ∷ ps) (onto b ps)) ≡ b ∷ s
     go t e [] h j = absurd (omega arith)
     go true e (p ∷ ps) h j = let k = eqb-true b c e in cc
     go false e (p ∷ ps) h j = cc
@@ -245,7 +244,7 @@ unfolding splitAt all has any
 split-parts c [] = refl
 split-parts c (b ∷ s) = go (eqb b c) refl (splitAt c s) (split-parts c s)
   where
-    go : (t : Bool) → eqb b c ≡ t → (ps : List (List ℕ)) → all (λ p. not (has c p)) ps ≡ true → all (λ p. not (has c p)) (pick t ([] ∷ ps) (onto b ps)) ≡ true
+    go : (t : Bool) → eqb b c ≡ t → (ps : List (List ℕ)) → all (λ p. not (has c p)) ps ≡ true → all (λ p. not (has c p)) (cond t ([] ∷ ps) (onto b ps)) ≡ true
     go true e ps h = h
     go false e [] h = rw e
     go false e (p ∷ ps) h = rw e h

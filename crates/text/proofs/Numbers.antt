@@ -1,6 +1,6 @@
 -- The laws of decimal numbers.
 use mathlib.Core.Path.{_≡_, refl, sym, _∙_}
-use mathlib.Core.Bool.{Bool, true, false}
+use mathlib.Core.Bool.{Bool, true, false, cond, _&&_}
 use mathlib.Core.List.{List, [], _∷_}
 use Prim.Native.Nat.{ℕ, suc, _+_, _*_, _-_, _^_, _≤_, _<_}
 use native.Mathlib.Nat.{pow-suc, pow-le-pow-right, add-zero, zero-add}
@@ -9,7 +9,6 @@ use native.Mathlib.Omega.{arith}
 use borrow.Author.Tests.{le-leb, lt-leb, leb-true}
 use lib.Dec.{leb, lit<}
 use lib.ListN.{length, drop, getD, drop-of-length-le}
-use Rattle.text.specs.Choice.{pick, both}
 use Rattle.text.proofs.Laws.{next, both-true, both-of, both-no}
 use Rattle.text.specs.declared.number.Number.{Number}
 use Rattle.text.specs.declared.number.Number.the-variants.{Value, Malformed}
@@ -52,7 +51,7 @@ grow v i d h k = rw (add-one i, pow-suc 10 i) (omega arith)
 pub small : (v i : ℕ) → v < 10 ^ i → i ≤ 5 → v < 100000
 small v i h k = let p : 10 ^ i ≤ 10 ^ 5 = pow-le-pow-right (lit< tt) k in omega arith
 
-told : (t : Bool) (n : Number) (w : ℕ) → pick t n Malformed ≡ Value w → (t ≡ true) × (n ≡ Value w)
+told : (t : Bool) (n : Number) (w : ℕ) → cond t n Malformed ≡ Value w → (t ≡ true) × (n ≡ Value w)
 told true n w e = (refl, e)
 told false n w e = (cc, cc)
 
@@ -69,7 +68,7 @@ digits-bound (b ∷ s) v i w h e =
 pub number-bound : (s : List ℕ) (w : ℕ) → numberOf s ≡ Value w → w < 100000
 unfolding numberOf
 number-bound s w e =
-    let t = told (both (leb 1 (length s)) (leb (length s) 5)) (digits 0 s) w e in
+    let t = told (leb 1 (length s) && leb (length s) 5) (digits 0 s) w e in
     let k = leb-true (length s) 5 (both-true (leb 1 (length s)) (leb (length s) 5) (t .0) .1) in
     small w (length s) (let d = digits-bound s 0 0 w (lit< tt) (t .1) in rw zero-add at d) k
 
@@ -84,7 +83,7 @@ digits-told (b ∷ s) v w e =
 pub number-told : (s : List ℕ) (w : ℕ) → numberOf s ≡ Value w → (1 ≤ length s) × (length s ≤ 5) × (all digit s ≡ true)
 unfolding numberOf
 number-told s w e =
-    let t = told (both (leb 1 (length s)) (leb (length s) 5)) (digits 0 s) w e in
+    let t = told (leb 1 (length s) && leb (length s) 5) (digits 0 s) w e in
     let k = both-true (leb 1 (length s)) (leb (length s) 5) (t .0) in
     (leb-true 1 (length s) (k .0), leb-true (length s) 5 (k .1), digits-told s 0 w (t .1))
 
@@ -96,7 +95,7 @@ digits-some (b ∷ s) v e =
     let t = both-true (digit b) (all digit s) e in
     go (digit b) (t .0) (digits-some s (v * 10 + (b - 48)) (t .1))
   where
-    go : (t : Bool) → t ≡ true → (w : ℕ) × (digits (v * 10 + (b - 48)) s ≡ Value w) → (w : ℕ) × (pick t (digits (v * 10 + (b - 48)) s) Malformed ≡ Value w)
+    go : (t : Bool) → t ≡ true → (w : ℕ) × (digits (v * 10 + (b - 48)) s ≡ Value w) → (w : ℕ) × (cond t (digits (v * 10 + (b - 48)) s) Malformed ≡ Value w)
     go true e r = r
     go false e r = (r .0, cc)
 

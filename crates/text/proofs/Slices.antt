@@ -1,6 +1,6 @@
 -- The laws of comparing and searching.
 use mathlib.Core.Path.{_≡_, refl, sym, ap}
-use mathlib.Core.Bool.{Bool, true, false}
+use mathlib.Core.Bool.{Bool, true, false, cond, _&&_, _||_}
 use mathlib.Core.List.{List, [], _∷_, _++_}
 use Prim.Native.Nat.{ℕ, zero, suc, _+_, _-_, _≤_, _<_}
 use native.Mathlib.Nat.{add-zero}
@@ -8,7 +8,6 @@ use native.Mathlib.Omega.{arith}
 use borrow.Author.Tests.{eq-eqb, ne-eqb, eqb-true}
 use lib.Dec.{eqb}
 use lib.ListN.{length, length-append, take, drop, getD, drop-of-length-le, length-drop}
-use Rattle.text.specs.Choice.{pick, both, either}
 use Rattle.text.specs.Lists.{any, has}
 use Rattle.text.proofs.Laws.{next, both-true, either-false, false-of, same-test}
 use Rattle.text.specs.declared.slice.Found.the-variants.{At, Nothing}
@@ -73,7 +72,7 @@ unfolding startsWith
 starts-end p s i h = rw (drop-of-length-le p h)
 
 abbrev pub pairAt : ℕ → ℕ → List ℕ → ℕ → Bool
-pairAt c d s i = both (eqb (getD s i 0) c) (eqb (getD s (i + 1) 0) d)
+pairAt c d s i = eqb (getD s i 0) c && eqb (getD s (i + 1) 0) d
 
 head-is : (d : ℕ) (s : List ℕ) → headIs d s ≡ true → (0 < length s) × (getD s 0 0 ≡ d)
 unfolding headIs
@@ -85,7 +84,7 @@ unfolding headIs
 head-of d [] h e = absurd (omega arith)
 head-of d (y ∷ s) h e = eq-eqb y d e
 
-pair-next : (c d : ℕ) (s : List ℕ) (i : ℕ) → i + 1 < length s → findPair c d i (drop i s) ≡ pick (pairAt c d s i) (At i) (findPair c d (i + 1) (drop (i + 1) s))
+pair-next : (c d : ℕ) (s : List ℕ) (i : ℕ) → i + 1 < length s → findPair c d i (drop i s) ≡ cond (pairAt c d s i) (At i) (findPair c d (i + 1) (drop (i + 1) s))
 unfolding findPair headIs
 pair-next c d s i h = let k : i < length s = omega arith in rw (next s i k, next s (i + 1) h)
 
@@ -98,7 +97,7 @@ pair-on c d s i h t = rw (pair-next c d s i h, t)
 few : (c d : ℕ) (at : ℕ) (s : List ℕ) → length s ≤ 1 → Nothing ≡ findPair c d at s
 unfolding findPair headIs
 few c d at [] h = refl
-few c d at (x ∷ []) h = elim (eqb x c) as (λ (t : Bool). Nothing ≡ pick (both t false) (At at) Nothing) [ true ↦ refl | false ↦ refl ]
+few c d at (x ∷ []) h = elim (eqb x c) as (λ (t : Bool). Nothing ≡ cond (t && false) (At at) Nothing) [ true ↦ refl | false ↦ refl ]
 few c d at (x ∷ (y ∷ s)) h = absurd (omega arith)
 
 pub pair-end : (c d : ℕ) (s : List ℕ) (i : ℕ) → length s ≤ i + 1 → Nothing ≡ findPair c d i (drop i s)
@@ -124,7 +123,7 @@ byte-found c at (x ∷ s) i e = go (eqb x c) refl (byte-found c (at + 1) s i) e
   where
     go : (t : Bool) → eqb x c ≡ t
         → (findByte c (at + 1) s ≡ At i → (at + 1 ≤ i) × (i - (at + 1) < length s) × (getD s (i - (at + 1)) 0 ≡ c) × (has c (take (i - (at + 1)) s) ≡ false))
-        → pick t (At at) (findByte c (at + 1) s) ≡ At i
+        → cond t (At at) (findByte c (at + 1) s) ≡ At i
         → (at ≤ i) × (i - at < suc (length s)) × (getD (x ∷ s) (i - at) 0 ≡ c) × (has c (take (i - at) (x ∷ s)) ≡ false)
     go true t f e = let q : at ≡ i = cc in let z : i - at ≡ 0 = omega arith in rw z (omega arith, omega arith, eqb-true x c t, refl)
     go false t f e =
@@ -140,7 +139,7 @@ unfolding findByte has any
 byte-none c at [] e = refl
 byte-none c at (x ∷ s) e = go (eqb x c) (byte-none c (at + 1) s) e
   where
-    go : (t : Bool) → (findByte c (at + 1) s ≡ Nothing → has c s ≡ false) → pick t (At at) (findByte c (at + 1) s) ≡ Nothing → either t (has c s) ≡ false
+    go : (t : Bool) → (findByte c (at + 1) s ≡ Nothing → has c s ≡ false) → cond t (At at) (findByte c (at + 1) s) ≡ Nothing → t || has c s ≡ false
     go true f e = cc
     go false f e = f e
 
@@ -162,11 +161,11 @@ byte-first c at (x ∷ p) s e =
 pair-found : (c d at : ℕ) (s : List ℕ) (i : ℕ) → findPair c d at s ≡ At i → (at ≤ i) × (i - at + 1 < length s) × (getD s (i - at) 0 ≡ c) × (getD s (i - at + 1) 0 ≡ d)
 unfolding findPair
 pair-found c d at [] i e = let z : _≡_ {A = ℕ} 0 1 = cc in absurd (omega arith)
-pair-found c d at (x ∷ s) i e = go (both (eqb x c) (headIs d s)) refl (pair-found c d (at + 1) s i) e
+pair-found c d at (x ∷ s) i e = go (eqb x c && headIs d s) refl (pair-found c d (at + 1) s i) e
   where
-    go : (t : Bool) → both (eqb x c) (headIs d s) ≡ t
+    go : (t : Bool) → eqb x c && headIs d s ≡ t
         → (findPair c d (at + 1) s ≡ At i → (at + 1 ≤ i) × (i - (at + 1) + 1 < length s) × (getD s (i - (at + 1)) 0 ≡ c) × (getD s (i - (at + 1) + 1) 0 ≡ d))
-        → pick t (At at) (findPair c d (at + 1) s) ≡ At i
+        → cond t (At at) (findPair c d (at + 1) s) ≡ At i
         → (at ≤ i) × (i - at + 1 < suc (length s)) × (getD (x ∷ s) (i - at) 0 ≡ c) × (getD (x ∷ s) (i - at + 1) 0 ≡ d)
     go true t f e =
         let q : at ≡ i = cc in
@@ -190,9 +189,9 @@ pair-there c d at [] j h p q = absurd (omega arith)
 pair-there c d at (x ∷ s) zero h p q = (at, rw (eq-eqb x c p, head-of d s (omega arith) q), omega arith)
 pair-there c d at (x ∷ s) (suc j) h p q =
     let z : suc j + 1 ≡ suc (j + 1) = omega arith in
-    go (both (eqb x c) (headIs d s)) (pair-there c d (at + 1) s j (omega arith) p (rw z at q))
+    go (eqb x c && headIs d s) (pair-there c d (at + 1) s j (omega arith) p (rw z at q))
   where
-    go : (t : Bool) → (k : ℕ) × (findPair c d (at + 1) s ≡ At k) × (k ≤ at + 1 + j) → (k : ℕ) × (pick t (At at) (findPair c d (at + 1) s) ≡ At k) × (k ≤ at + suc j)
+    go : (t : Bool) → (k : ℕ) × (findPair c d (at + 1) s ≡ At k) × (k ≤ at + 1 + j) → (k : ℕ) × (cond t (At at) (findPair c d (at + 1) s) ≡ At k) × (k ≤ at + suc j)
     go true r = (at, refl, omega arith)
     go false r = (r .0, r .1, omega (arith, r .2))
 

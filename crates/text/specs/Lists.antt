@@ -1,10 +1,9 @@
 -- List functions that all layers share.
 use Prim.Native.Nat.{ℕ, suc}
-use mathlib.Core.Bool.{Bool, true, false}
+use mathlib.Core.Bool.{Bool, true, false, cond, _&&_, _||_}
 use mathlib.Core.List.{List, [], _∷_, _++_}
 use mathlib.Core.Option.{Option, none, some}
 use lib.Dec.{eqb}
-use Rattle.text.specs.Choice.{pick, both, either}
 
 module _ {A : Type 0} where
   abbrev pub null : List A → Bool
@@ -14,17 +13,17 @@ module _ {A : Type 0} where
   -- each element passes
   unfoldable pub all : (A → Bool) → List A → Bool
   all f [] = true
-  all f (x ∷ xs) = both (f x) (all f xs)
+  all f (x ∷ xs) = f x && all f xs
 
   -- some element passes
   unfoldable pub any : (A → Bool) → List A → Bool
   any f [] = false
-  any f (x ∷ xs) = either (f x) (any f xs)
+  any f (x ∷ xs) = f x || any f xs
 
   -- how many elements pass
   unfoldable pub count : (A → Bool) → List A → ℕ
   count f [] = 0
-  count f (x ∷ xs) = pick (f x) (suc (count f xs)) (count f xs)
+  count f (x ∷ xs) = cond (f x) (suc (count f xs)) (count f xs)
 
   -- the first fault wins: the first that is one
   abbrev pub firstOf : Option A → Option A → Option A
@@ -49,4 +48,4 @@ onto b (p ∷ ps) = (b ∷ p) ∷ ps
 -- the parts between the bytes c: one more than there are such bytes
 unfoldable pub splitAt : ℕ → List ℕ → List (List ℕ)
 splitAt c [] = [] ∷ []
-splitAt c (b ∷ s) = pick (eqb b c) ([] ∷ splitAt c s) (onto b (splitAt c s))
+splitAt c (b ∷ s) = cond (eqb b c) ([] ∷ splitAt c s) (onto b (splitAt c s))

@@ -1,10 +1,9 @@
 -- A list of bytes parted at a byte.
 use Prim.Native.Nat.{ℕ}
-use mathlib.Core.Bool.{Bool, true, false}
+use mathlib.Core.Bool.{Bool, true, false, cond}
 use mathlib.Core.List.{List, [], _∷_}
 use mathlib.Core.Option.{Option, none, some}
 use lib.Dec.{eqb}
-use Rattle.text.specs.Choice.{pick}
 
 -- the bytes in front of the parting byte, and those behind it
 pub record Parts : Type 0 where
@@ -18,4 +17,4 @@ behind b (some p) = some (record { front = b ∷ p .front; back = p .back })
 -- the text parted at its first byte c; none where there is no such byte
 unfoldable pub partAt : ℕ → List ℕ → Option Parts
 partAt c [] = none
-partAt c (b ∷ s) = pick (eqb b c) (some (record { front = []; back = s })) (behind b (partAt c s))
+partAt c (b ∷ s) = cond (eqb b c) (some (record { front = []; back = s })) (behind b (partAt c s))

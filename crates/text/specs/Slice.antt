@@ -1,9 +1,8 @@
 -- Comparing and searching lists of bytes.
 use Prim.Native.Nat.{ℕ, _+_}
-use mathlib.Core.Bool.{Bool, true, false}
+use mathlib.Core.Bool.{Bool, true, false, cond, _&&_}
 use mathlib.Core.List.{List, [], _∷_}
 use lib.Dec.{eqb}
-use Rattle.text.specs.Choice.{pick, both}
 use Rattle.text.specs.declared.slice.Found.{Found}
 use Rattle.text.specs.declared.slice.Found.the-variants.{At, Nothing}
 
@@ -12,13 +11,13 @@ unfoldable pub same : List ℕ → List ℕ → Bool
 same [] [] = true
 same [] (y ∷ b) = false
 same (x ∷ a) [] = false
-same (x ∷ a) (y ∷ b) = both (eqb x y) (same a b)
+same (x ∷ a) (y ∷ b) = eqb x y && same a b
 
 -- the second begins with the first
 unfoldable pub startsWith : List ℕ → List ℕ → Bool
 startsWith [] s = true
 startsWith (y ∷ p) [] = false
-startsWith (y ∷ p) (x ∷ s) = both (eqb x y) (startsWith p s)
+startsWith (y ∷ p) (x ∷ s) = eqb x y && startsWith p s
 
 -- the first byte is d
 unfoldable pub headIs : ℕ → List ℕ → Bool
@@ -28,9 +27,9 @@ headIs d (y ∷ s) = eqb y d
 -- the first place, counted from `at`, where c and then d stand
 unfoldable pub findPair : ℕ → ℕ → ℕ → List ℕ → Found
 findPair c d at [] = Nothing
-findPair c d at (x ∷ s) = pick (both (eqb x c) (headIs d s)) (At at) (findPair c d (at + 1) s)
+findPair c d at (x ∷ s) = cond (eqb x c && headIs d s) (At at) (findPair c d (at + 1) s)
 
 -- the first place, counted from `at`, where c stands
 unfoldable pub findByte : ℕ → ℕ → List ℕ → Found
 findByte c at [] = Nothing
-findByte c at (x ∷ s) = pick (eqb x c) (At at) (findByte c (at + 1) s)
+findByte c at (x ∷ s) = cond (eqb x c) (At at) (findByte c (at + 1) s)

@@ -2,4 +2,5 @@
 pub mod buffer; // bytes put into a lent buffer
 pub mod class; // the class of a byte, and tests on one byte
 pub mod number; // decimal numbers
+pub mod quote; // quotes
 pub mod slice; // comparing and searching slices

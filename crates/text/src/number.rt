@@ -1,4 +1,5 @@
-// Decimal numbers of one to five digits.
+// Decimal numbers of one to five digits, and a number kept within a limit.
+ghost use Prim.Native.Nat.{_≤_, min};
 ghost use mathlib.Core.Path.{_≡_};
 ghost use Rattle.text.specs.Class.{digit};
 ghost use Rattle.text.specs.Number.{numberOf};
@@ -40,4 +41,11 @@ pub fn decimal(s: &[u8]) -> Number
         i += 1;
     }
     Number::Value(v)
+}
+
+// The number, or the limit where it is above.
+pub fn at_most(n: usize, most: usize) -> usize
+    ensures { λ r. ⌜ (r ≡ min n most) × (r ≤ most) ⌝ }
+{
+    if n < most { n } else { most }
 }

@@ -1,6 +1,6 @@
 -- The laws of clock times.
 use mathlib.Core.Path.{_≡_, refl, sym, ap, _∙_}
-use mathlib.Core.Bool.{Bool, true, false}
+use mathlib.Core.Bool.{Bool, true, false, cond}
 use mathlib.Core.List.{List}
 use mathlib.Core.Option.{Option, none, some}
 use Prim.Native.Nat.{ℕ, _+_, _*_, _-_, _≤_, _<_}
@@ -8,7 +8,6 @@ use native.Mathlib.Omega.{arith}
 use borrow.Author.Tests.{eq-eqb, ne-eqb, le-leb, lt-leb, leb-true}
 use lib.Dec.{eqb, leb}
 use lib.ListN.{length, take, drop}
-use Rattle.text.specs.Choice.{pick}
 use Rattle.text.specs.Number.{numberOf}
 use Rattle.text.specs.Slice.{findByte}
 use Rattle.text.specs.declared.number.Number.{Number}
@@ -23,7 +22,7 @@ valued : (n : Number) (w : ℕ) → valueOf n ≡ some w → n ≡ Value w
 valued (Value v) w e = let q : v ≡ w = cc in rw q
 valued Malformed w e = cc
 
-pick-some : (t : Bool) (o : Option ℕ) (w : ℕ) → pick t o none ≡ some w → (t ≡ true) × (o ≡ some w)
+pick-some : (t : Bool) (o : Option ℕ) (w : ℕ) → cond t o none ≡ some w → (t ≡ true) × (o ≡ some w)
 pick-some true o w e = (refl, e)
 pick-some false o w e = (cc, cc)
 

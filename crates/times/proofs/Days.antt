@@ -1,6 +1,6 @@
 -- The laws of the day names.
 use mathlib.Core.Path.{_≡_, refl, sym}
-use mathlib.Core.Bool.{Bool, true, false}
+use mathlib.Core.Bool.{Bool, true, false, cond, _&&_}
 use mathlib.Core.List.{List, [], _∷_}
 use mathlib.Core.Option.{none, some}
 use Prim.Native.Nat.{ℕ, _+_, _*_, _≤_, _<_}
@@ -9,7 +9,6 @@ use borrow.Author.Tests.{eq-eqb, ne-eqb, le-leb, lt-leb}
 use lib.Dec.{eqb, lit≤}
 use lib.ListN.{length, take, drop, getD, drop-of-length-le}
 use lib.Seq.{getD-take, getD-drop}
-use Rattle.text.specs.Choice.{pick, both}
 use Rattle.text.specs.Bytes.{bytes}
 use Rattle.text.specs.Slice.{same}
 use Rattle.text.proofs.Laws.{next, next-of, below, both-yes}
@@ -68,7 +67,7 @@ seven : length dayNames ≡ 7
 unfolding dayNames
 seven = refl
 
-day-next : (d : ℕ) (s : List ℕ) → d < 7 → dayAmong d (drop d dayNames) s ≡ pick (shortens s (nameOf d)) (some (Only d)) (dayAmong (d + 1) (drop (d + 1) dayNames) s)
+day-next : (d : ℕ) (s : List ℕ) → d < 7 → dayAmong d (drop d dayNames) s ≡ cond (shortens s (nameOf d)) (some (Only d)) (dayAmong (d + 1) (drop (d + 1) dayNames) s)
 unfolding dayAmong
 day-next d s h = rw (next-of [] dayNames d (rw seven h))
 
@@ -88,7 +87,7 @@ star-other [] h = refl
 star-other (b ∷ []) h = absurd (h refl)
 star-other (b ∷ (x ∷ s)) h = go (eqb b 42)
   where
-    go : (t : Bool) → false ≡ both t false
+    go : (t : Bool) → false ≡ t && false
     go true = refl
     go false = refl
 

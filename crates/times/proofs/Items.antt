@@ -1,6 +1,6 @@
 -- The laws of spans and items.
 use mathlib.Core.Path.{_≡_, refl, sym, ap, _∙_}
-use mathlib.Core.Bool.{true, false}
+use mathlib.Core.Bool.{true, false, cond}
 use mathlib.Core.List.{List, [], _∷_}
 use mathlib.Core.Option.{Option, none, some}
 use Prim.Native.Nat.{ℕ, _+_, _-_, _≤_, _<_, _/_, _%_}
@@ -8,7 +8,6 @@ use native.Mathlib.Omega.{arith}
 use borrow.Author.Tests.{eq-eqb, ne-eqb, le-leb, lt-leb}
 use lib.Dec.{eqb, leb, ltb}
 use lib.ListN.{length, take, drop, getD}
-use Rattle.text.specs.Choice.{pick}
 use Rattle.text.specs.Lists.{firstOf}
 use Rattle.text.specs.Slice.{headIs, findByte}
 use Rattle.text.specs.declared.slice.Found.{Found}
@@ -103,11 +102,11 @@ span-none [] h = refl
 span-none (b ∷ s) h = absurd (omega arith)
 
 module _ (s : List ℕ) (n : length s ≡ 0 → ⊥) where
-  spelled : spanOf s ≡ pick (eqb (getD s 0 0) 60) (compared Before UpTo (drop 1 s)) (pick (eqb (getD s 0 0) 62) (compared After Since (drop 1 s)) (rangeOf s))
+  spelled : spanOf s ≡ cond (eqb (getD s 0 0) 60) (compared Before UpTo (drop 1 s)) (cond (eqb (getD s 0 0) 62) (compared After Since (drop 1 s)) (rangeOf s))
   unfolding spanOf
   spelled = go s n
     where
-      go : (s : List ℕ) → (length s ≡ 0 → ⊥) → spanOf s ≡ pick (eqb (getD s 0 0) 60) (compared Before UpTo (drop 1 s)) (pick (eqb (getD s 0 0) 62) (compared After Since (drop 1 s)) (rangeOf s))
+      go : (s : List ℕ) → (length s ≡ 0 → ⊥) → spanOf s ≡ cond (eqb (getD s 0 0) 60) (compared Before UpTo (drop 1 s)) (cond (eqb (getD s 0 0) 62) (compared After Since (drop 1 s)) (rangeOf s))
       go [] n = absurd (n refl)
       go (b ∷ s) n = refl
 

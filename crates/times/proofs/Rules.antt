@@ -1,9 +1,8 @@
 -- The laws of the rule over time items.
 use mathlib.Core.Path.{_≡_, refl, _∙_}
-use mathlib.Core.Bool.{Bool, true, false, not}
+use mathlib.Core.Bool.{Bool, true, false, not, cond, _&&_}
 use mathlib.Core.List.{List, [], _∷_, _++_}
 use mathlib.Core.Option.{Option, none, some}
-use Rattle.text.specs.Choice.{pick, both}
 use Rattle.text.specs.Lists.{all, firstOf}
 use Rattle.text.proofs.Laws.{both-assoc}
 use Rattle.times.specs.declared.rule.TimeRule.{TimeRule}
@@ -12,14 +11,14 @@ use Rattle.times.specs.Rule.{TimeMark, rightmost, decided, timesAccept, 
 -- what a rule with items behind it accepts: the rightmost that matches, else what was kept, else whether all were negated
 abbrev endsAs : TimeRule → Option TimeMark → List TimeMark → Bool
 endsAs rule (some x) xs = not (x .negated)
-endsAs rule none xs = pick (rule .matched) (rule .accepts) (both (rule .accepts) (all (λ x. x .negated) xs))
+endsAs rule none xs = cond (rule .matched) (rule .accepts) (rule .accepts && all (λ x. x .negated) xs)
 
-step : (rule : TimeRule) (x : TimeMark) (o : Option TimeMark) (xs : List TimeMark) → endsAs (marked rule x) o xs ≡ endsAs rule (firstOf o (pick (x .matches) (some x) none)) (x ∷ xs)
+step : (rule : TimeRule) (x : TimeMark) (o : Option TimeMark) (xs : List TimeMark) → endsAs (marked rule x) o xs ≡ endsAs rule (firstOf o (cond (x .matches) (some x) none)) (x ∷ xs)
 unfolding marked all
 step rule x (some y) xs = refl
 step rule x none xs = go (x .matches) (rule .matched) refl
   where
-    go : (m k : Bool) → rule .matched ≡ k → endsAs (pick m (record { matched = true; accepts = not (x .negated) }) (pick k rule (record { matched = false; accepts = both (rule .accepts) (x .negated) }))) none xs ≡ endsAs rule (pick m (some x) none) (x ∷ xs)
+    go : (m k : Bool) → rule .matched ≡ k → endsAs (cond m (record { matched = true; accepts = not (x .negated) }) (cond k rule (record { matched = false; accepts = rule .accepts && x .negated }))) none xs ≡ endsAs rule (cond m (some x) none) (x ∷ xs)
     go true k e = refl
     go false true e = rw e
     go false false e = rw e (both-assoc (rule .accepts) (x .negated) (all (λ y. y .negated) xs))
@@ -28,7 +27,7 @@ ends : (rule : TimeRule) (xs : List TimeMark) → markedAll rule xs .accepts ≡
 unfolding markedAll rightmost all
 ends rule [] = go (rule .matched) (rule .accepts)
   where
-    go : (m a : Bool) → a ≡ pick m a (both a true)
+    go : (m a : Bool) → a ≡ cond m a (a && true)
     go true a = refl
     go false true = refl
     go false false = refl
@@ -60,6 +59,6 @@ module _ (rule : TimeRule) (x : TimeMark) where
     unfolding marked
     marked-kept f = rw (e, f)
 
-    pub marked-missed : {t : Bool} → rule .matched ≡ false → t ≡ both (rule .accepts) (x .negated) → record { matched = false; accepts = t } ≡ marked rule x
+    pub marked-missed : {t : Bool} → rule .matched ≡ false → t ≡ rule .accepts && x .negated → record { matched = false; accepts = t } ≡ marked rule x
     unfolding marked
     marked-missed f g = rw (e, f, g)

@@ -1,11 +1,10 @@
 -- Clock times: "hh has one or two digits, mm two (to 59). 24:00 is past the day's last minute; later is 14" (01).
 use Prim.Native.Nat.{ℕ, _+_, _*_}
-use mathlib.Core.Bool.{Bool, true, false}
+use mathlib.Core.Bool.{Bool, true, false, cond, _&&_}
 use mathlib.Core.List.{List, [], _∷_}
 use mathlib.Core.Option.{Option, none, some}
 use lib.Dec.{eqb, leb}
 use lib.ListN.{length}
-use Rattle.text.specs.Choice.{pick, both}
 use Rattle.text.specs.Number.{numberOf}
 use Rattle.text.specs.declared.number.Number.{Number}
 use Rattle.text.specs.declared.number.Number.the-variants.{Value, Malformed as NoNumber}
@@ -20,17 +19,17 @@ valueOf NoNumber = none
 -- "hh has one or two digits"
 unfoldable pub hourOf : List ℕ → Option ℕ
 unfolding numberOf
-hourOf s = pick (leb (length s) 2) (valueOf (numberOf s)) none
+hourOf s = cond (leb (length s) 2) (valueOf (numberOf s)) none
 
 -- the number, where it is not above `most`
 abbrev pub atMost : ℕ → Option ℕ → Option ℕ
 atMost most none = none
-atMost most (some v) = pick (leb v most) (some v) none
+atMost most (some v) = cond (leb v most) (some v) none
 
 -- "mm two (to 59)"
 unfoldable pub minuteOf : List ℕ → Option ℕ
 unfolding numberOf
-minuteOf s = pick (eqb (length s) 2) (atMost 59 (valueOf (numberOf s))) none
+minuteOf s = cond (eqb (length s) 2) (atMost 59 (valueOf (numberOf s))) none
 
 -- the minute of the day, where it is not after 24:00
 abbrev pub minuteAt : Option ℕ → Option ℕ → Option ℕ

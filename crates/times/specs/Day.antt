@@ -1,11 +1,10 @@
 -- Days: "a day is a name or `*`"; "The seven English day names may be shortened to three letters or more, in either case" (01).
 use Prim.Native.Nat.{ℕ, _+_}
-use mathlib.Core.Bool.{Bool, true, false}
+use mathlib.Core.Bool.{Bool, true, false, cond, _&&_}
 use mathlib.Core.List.{List, [], _∷_}
 use mathlib.Core.Option.{Option, none, some}
 use lib.Dec.{eqb, leb}
 use lib.ListN.{length}
-use Rattle.text.specs.Choice.{pick, both}
 use Rattle.text.specs.Class.{within}
 use Rattle.text.specs.Bytes.{bytes}
 use Rattle.text.specs.Slice.{same}
@@ -28,25 +27,25 @@ dayNames =
 
 -- a capital letter as a small one, any other byte as it is
 unfoldable pub lowerOf : ℕ → ℕ
-lowerOf b = pick (within 65 90 b) (b + 32) b
+lowerOf b = cond (within 65 90 b) (b + 32) b
 
 -- the first, with letter case ignored, is a beginning of the second
 unfoldable pub shortens : List ℕ → List ℕ → Bool
 unfolding lowerOf
 shortens [] name = true
 shortens (b ∷ s) [] = false
-shortens (b ∷ s) (x ∷ name) = both (eqb (lowerOf b) x) (shortens s name)
+shortens (b ∷ s) (x ∷ name) = eqb (lowerOf b) x && shortens s name
 
 -- the first of the names, the first having number d, that the text shortens
 unfoldable pub dayAmong : ℕ → List (List ℕ) → List ℕ → Option Day
 unfolding shortens
 dayAmong d [] s = none
-dayAmong d (name ∷ names) s = pick (shortens s name) (some (Only d)) (dayAmong (d + 1) names s)
+dayAmong d (name ∷ names) s = cond (shortens s name) (some (Only d)) (dayAmong (d + 1) names s)
 
 -- `*` is every day; a name has three letters or more
 unfoldable pub dayOf : List ℕ → Option Day
 unfolding same dayAmong dayNames
-dayOf s = pick (same s (bytes "*")) (some Every) (pick (leb 3 (length s)) (dayAmong 0 dayNames s) none)
+dayOf s = cond (same s (bytes "*")) (some Every) (cond (leb 3 (length s)) (dayAmong 0 dayNames s) none)
 
 -- the code's answer as the definition's
 abbrev pub dayRead : DayRead → Option Day

@@ -1,11 +1,10 @@
 -- Time items, one brace-free expansion of what follows `time~` (01, "Entries"), and the minutes of the week that they match.
 use Prim.Native.Nat.{ℕ, _/_, _%_}
-use mathlib.Core.Bool.{Bool, true, false}
+use mathlib.Core.Bool.{Bool, true, false, cond, _&&_}
 use mathlib.Core.List.{List, [], _∷_}
 use mathlib.Core.Option.{Option, none, some}
 use lib.Dec.{eqb, leb, ltb}
 use lib.ListN.{drop}
-use Rattle.text.specs.Choice.{pick, both}
 use Rattle.text.specs.Class.{within}
 use Rattle.text.specs.Lists.{firstOf}
 use Rattle.text.specs.Slice.{headIs}
@@ -31,13 +30,13 @@ spanFrom kind (some v) = some (kind v)
 -- `<` or `>` was read: with `=` the minute itself counts
 unfoldable pub compared : (ℕ → Span) → (ℕ → Span) → List ℕ → Option Span
 unfolding headIs clockOf
-compared strict loose s = pick (headIs 61 s) (spanFrom loose (clockOf (drop 1 s))) (spanFrom strict (clockOf s))
+compared strict loose s = cond (headIs 61 s) (spanFrom loose (clockOf (drop 1 s))) (spanFrom strict (clockOf s))
 
 -- "the start is not after the end"
 abbrev pub ordered : Option ℕ → Option ℕ → Option Span
 ordered none b = none
 ordered (some a) none = none
-ordered (some a) (some b) = pick (leb a b) (some (Between a b)) none
+ordered (some a) (some b) = cond (leb a b) (some (Between a b)) none
 
 abbrev pub rangeParts : Option Parts → Option Span
 rangeParts none = none
@@ -52,7 +51,7 @@ rangeOf s = rangeParts (partAt 45 s)
 unfoldable pub spanOf : List ℕ → Option Span
 unfolding compared rangeOf
 spanOf [] = none
-spanOf (b ∷ s) = pick (eqb b 60) (compared Before UpTo s) (pick (eqb b 62) (compared After Since s) (rangeOf (b ∷ s)))
+spanOf (b ∷ s) = cond (eqb b 60) (compared Before UpTo s) (cond (eqb b 62) (compared After Since s) (rangeOf (b ∷ s)))
 
 abbrev pub itemFrom : Option Span → Option Day → Option TimeItem
 itemFrom none day = none
@@ -86,7 +85,7 @@ inSpan AllDay m = true
 -- the minute of the week is one of the item's; Monday 0:00 is 0, and a day has 1,440 minutes
 unfoldable pub itemMatches : TimeItem → ℕ → Bool
 unfolding onDay inSpan
-itemMatches item minute = both (onDay (item .day) (minute / 1440)) (inSpan (item .span) (minute % 1440))
+itemMatches item minute = onDay (item .day) (minute / 1440) && inSpan (item .span) (minute % 1440)
 
 -- the code's answers as the definition's
 abbrev pub spanRead : SpanRead → Option Span

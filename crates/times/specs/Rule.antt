@@ -1,9 +1,8 @@
 -- The rule over the time items of an entry (01, "Entries", and 002).
 use Prim.Native.Nat.{ℕ}
-use mathlib.Core.Bool.{Bool, true, false, not}
+use mathlib.Core.Bool.{Bool, true, false, not, cond, _&&_}
 use mathlib.Core.List.{List, [], _∷_}
 use mathlib.Core.Option.{Option, none, some}
-use Rattle.text.specs.Choice.{pick, both}
 use Rattle.times.specs.declared.rule.TimeRule.{TimeRule}
 use Rattle.text.specs.Lists.{all, firstOf}
 
@@ -15,7 +14,7 @@ pub record TimeMark : Type 0 where
 -- the rightmost matching item, if one matches
 unfoldable pub rightmost : List TimeMark → Option TimeMark
 rightmost [] = none
-rightmost (x ∷ xs) = firstOf (rightmost xs) (pick (x .matches) (some x) none)
+rightmost (x ∷ xs) = firstOf (rightmost xs) (cond (x .matches) (some x) none)
 
 abbrev pub decided : Option TimeMark → List TimeMark → Bool
 decided none xs = all (λ x. x .negated) xs
@@ -29,8 +28,8 @@ timesAccept xs = decided (rightmost xs) xs
 -- what is kept of the items so far, with one item more
 unfoldable pub marked : TimeRule → TimeMark → TimeRule
 marked rule x =
-    pick (x .matches) (record { matched = true; accepts = not (x .negated) })
-    (pick (rule .matched) rule (record { matched = false; accepts = both (rule .accepts) (x .negated) }))
+    cond (x .matches) (record { matched = true; accepts = not (x .negated) })
+    (cond (rule .matched) rule (record { matched = false; accepts = rule .accepts && x .negated }))
 
 -- no item so far
 unfoldable pub unmarked : TimeRule

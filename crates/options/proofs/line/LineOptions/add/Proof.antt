@@ -1,7 +1,7 @@
+use mathlib.Core.Bool.{_||_}
 use mathlib.Core.Path.{ap, _∙_}
 use borrow.Author.Needs.{needs}
 use Rattle.options.specs.Values.{settingIn, givenIn}
-use Rattle.text.specs.Choice.{either}
 use Rattle.options.proofs.LineLaws.{added}
 use Rattle.options.proofs.line.LineOptions.add.Statement.{statement}
 use Rattle.options.proofs.line.LineOptions.add.Tie as tie
@@ -25,7 +25,7 @@ or-requires-2 : tie.Need-or-requires-2
 or-requires-2 c κs = search needs
 
 returns : tie.Need-returns
-returns c = let a = c .before .before .before .before .before .before .before .before .args in let t = a .text .now in added (givenIn (a .self)) (settingIn t (a .read)) (c .before .before .before .only-read .ensures) (c .before .before .over .ensures) (c .before .or .ensures ∙ ap (either (a .self .shell)) (c .before .before .before .before .is-shell .ensures t)) (c .or2 .ensures ∙ ap (either (a .self .twice)) (c .before .before .before .before .before .has .ensures t))
+returns c = let a = c .before .before .before .before .before .before .before .before .args in let t = a .text .now in added (givenIn (a .self)) (settingIn t (a .read)) (c .before .before .before .only-read .ensures) (c .before .before .over .ensures) (c .before .or .ensures ∙ ap (_||_ (a .self .shell)) (c .before .before .before .before .is-shell .ensures t)) (c .or2 .ensures ∙ ap (_||_ (a .self .twice)) (c .before .before .before .before .before .has .ensures t))
 
 pub add-spec : {M : Type 1} → statement M
 add-spec =
