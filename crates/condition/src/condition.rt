@@ -1,0 +1,1 @@
+// One condition from a field's text.
