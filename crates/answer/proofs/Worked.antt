@@ -3,9 +3,9 @@ use Prim.Native.Nat.{ℕ, _+_}
 use mathlib.Core.Path.{_≡_, refl}
 use mathlib.Core.Bool.{Bool, true, false}
 use mathlib.Core.List.{List, [], _∷_, _++_, map}
+use mathlib.Core.Option.{orElse}
 use lib.IntN.{ℤ, pos, negsuc}
 use lib.ListN.{length, take, drop, replicate}
-use Rattle.text.specs.Bytes.{bytes}
 use Rattle.question.specs.declared.Age.{Age}
 use Rattle.question.specs.declared.WeekMinute.{WeekMinute}
 use Rattle.question.specs.declared.LastAuthentication.{LastAuthentication}
@@ -15,44 +15,60 @@ use Rattle.options.specs.declared.span.Span.the-variants.{Nothing}
 use Rattle.answer.specs.declared.Granted.{Granted}
 use Rattle.answer.specs.declared.Answer.{Answer}
 use Rattle.answer.specs.declared.Answer.the-variants.{Permit, Password, NoEntry, CutShort}
-use Rattle.answer.specs.Meaning.{Asked, Outcome, result}
-use Rattle.answer.specs.Answer.{toldOf, isDecision, decidingLine}
-use Rattle.answer.specs.Meaning.{strings, overlaid, grantedBy, step as answer-Meaning-step, verdict as answer-Meaning-verdict, answerOf}
-use Rattle.entry.specs.Entry.{fieldsFrom as entry-Entry-fieldsFrom, completed, entryOf, starred, pathFor, conditionsAccept}
-use Rattle.entry.specs.Piece.{noField, followed, expanded, pathOf, hasPair, pairOf, commandOf, fullPathOf, prefixed, unnegated, userMarks, timeMarks, otherOf, pieceOf}
-use Rattle.entry.specs.Users.{userApplies, groupApplies, decidedBy, usersAccept}
-use Rattle.entry.specs.Verdict.{verdictOn, verdictOf}
+use Rattle.text.specs.Buffer.{laid, upTo}
+use Rattle.text.specs.Bytes.{bytes}
+use Rattle.text.specs.Class.{blank, letter, digit, wordByte, nameByte, printable, visible, classOf}
+use Rattle.text.specs.Lists.{all, any, count, firstFault, has, splitAt}
+use Rattle.text.specs.Number.{digits, numberOf as text-Number-numberOf}
+use Rattle.text.specs.Parts.{partAt}
+use Rattle.text.specs.Quote.{quotingAfter as text-Quote-quotingAfter}
+use Rattle.text.specs.Slice.{same, startsWith, headIs, findPair, findByte}
 use Rattle.fault.specs.Fault.{numberOf as fault-Fault-numberOf, readAll}
-use Rattle.line.specs.Fold.{run, outcome}
-use Rattle.line.specs.Joined.{markOf as line-Joined-markOf, modeAfter, joinMarks, modeJoined, needsIndent, startAt, given as line-Joined-given, after as line-Joined-after, lastMarks, bareAtEnd, marks, endState}
-use Rattle.line.specs.Kind.{kindOf}
-use Rattle.line.specs.Line.{lines, endsAt, cutShort}
-use Rattle.line.specs.Refused.{accepted, refusedFrom, refusedByte}
-use Rattle.line.specs.Scan.{openQuote, fieldsFrom as line-Scan-fieldsFrom, verdict as line-Scan-verdict, scanned}
-use Rattle.options.specs.Arguments.{passes, argumentsFrom, argumentsPass, inForce, failuresFrom, failures, marked as options-Arguments-marked, joined as options-Arguments-joined}
-use Rattle.options.specs.Options.{noOptions, over, nargsAllow}
-use Rattle.options.specs.Read.{rangeOf as options-Read-rangeOf, nameOf, isId, idOf, authOf, timeoutOf, argumentOf, settingOf, optionOf, only, optionsOf, argumentsOf, hasShell, twice}
-use Rattle.pattern.specs.Alternative.{next as pattern-Alternative-next, partsAt, partsOf, goodPart, alternativeOf}
+use Rattle.pattern.specs.Alternative.{next, partsAt, partsOf, goodPart, alternativeOf}
 use Rattle.pattern.specs.Match.{signOf, items, escapedItems, behindSet, tails, matchItems, matches, matchesSome}
+use Rattle.pattern.specs.Run.{ran, flat, opening}
 use Rattle.pattern.specs.Set.{bodyOf, behind, reach, ranges, members, goodSet, listed, inSet}
-use Rattle.pattern.specs.Tree.{depth, number, joined as pattern-Tree-joined, expansions, fits, markOf as pattern-Tree-markOf, firstPiece, readPattern, readList, patternOf, listOf, treeOf}
+use Rattle.pattern.specs.Steps.{seen, nth}
+use Rattle.pattern.specs.Tree.{depth, number, joined as pattern-Tree-joined, expansions, fits, markOf as pattern-Tree-markOf, firstPiece, readPattern, readList, patternOf, listOf, treeOf, expanded}
+use Rattle.pattern.specs.Whole.{sizeOf, shapeOf, expansionsOf, expansionAt, matchesPattern}
 use Rattle.question.specs.Password.{fresh, passwordNeeded}
 use Rattle.question.specs.Question.{commandByte, goodComponent, goodCommand, goodName, goodGroups, goodArgument, goodArguments, goodQuestion, questionOf}
 use Rattle.question.specs.Strings.{stringsOf, stringsIn, untilZero}
-use Rattle.reader.specs.Colon.{defineName, defineText, defineLine, globalLine, operatorOf, ifLine, colonWord}
-use Rattle.reader.specs.Read.{entryLine, fieldsRead, lineCause, lineRead}
-use Rattle.reader.specs.State.{start as reader-State-start, withDefinition, withSettings, withEntry}
-use Rattle.text.specs.Class.{blank, letter, digit, wordByte, nameByte, printable, visible, classOf}
-use Rattle.text.specs.Lists.{all as text-Lists-all, any as text-Lists-any, count, firstFault, has, splitAt}
-use Rattle.text.specs.Number.{digits, numberOf as text-Number-numberOf}
-use Rattle.text.specs.Parts.{partAt}
-use Rattle.text.specs.Slice.{same, startsWith, headIs, findPair, findByte}
 use Rattle.times.specs.Clock.{hourOf, minuteOf, clockOf}
 use Rattle.times.specs.Day.{dayNames, lowerOf, shortens, dayAmong, dayOf}
 use Rattle.times.specs.Item.{compared, rangeOf as times-Item-rangeOf, spanOf, itemOf, onDay, inSpan, itemMatches, itemAnswer}
-use Rattle.times.specs.Rule.{rightmost, timesAccept, marked as times-Rule-marked, unmarked, markedAll}
-use Rattle.variables.specs.Scope.{lookup, define, tooMany, nameStart, isName, builtIn, textOf}
-use Rattle.variables.specs.Substitute.{quotingAfter, stays, refers, word as variables-Substitute-word, known, closed, reference, pieces, joined as variables-Substitute-joined, joinedUpToBad, substituted, fieldText}
+use Rattle.times.specs.Rule.{rightmost as times-Rule-rightmost, timesAccept as times-Rule-timesAccept, marked as times-Rule-marked, unmarked, markedAll}
+use Rattle.line.specs.Counts.{closedOff, counted, countedAll, keptOf}
+use Rattle.line.specs.Fields.{textOf as line-Fields-textOf, outcomeOf as line-Fields-outcomeOf}
+use Rattle.line.specs.Fold.{run, outcome}
+use Rattle.line.specs.Joined.{markOf as line-Joined-markOf, modeAfter, joinMarks, modeJoined, needsIndent, startAt, given as line-Joined-given, after, lastMarks, bareAtEnd, marks, endState}
+use Rattle.line.specs.Kind.{kindOf}
+use Rattle.line.specs.Line.{lines, endsAt, cutShort, newlinesIn}
+use Rattle.line.specs.Refused.{accepted, refusedFrom, refusedByte}
+use Rattle.line.specs.Scan.{openQuote, fieldsFrom as line-Scan-fieldsFrom, verdict as line-Scan-verdict, scanned}
+use Rattle.line.specs.Turns.{stored, filled as line-Turns-filled, plainByte}
+use Rattle.variables.specs.Scope.{lookup, define, tooMany, nameStart, isName, builtIn, textOf as variables-Scope-textOf}
+use Rattle.variables.specs.State.{nameAt, textAt, placesFrom, definitionsIn, placeOf, outcomeOf as variables-State-outcomeOf}
+use Rattle.variables.specs.Substitute.{quotingAfter as variables-Substitute-quotingAfter, stays, refers, word, known, closed, reference, pieces, joined as variables-Substitute-joined, joinedUpToBad, substituted, fieldText, literal, verbatim}
+use Rattle.options.specs.Arguments.{passes, argumentsFrom, argumentsPass, inForce, failuresFrom, failures, marked as options-Arguments-marked, joined as options-Arguments-joined}
+use Rattle.options.specs.Line.{givenOf, holds, plus}
+use Rattle.options.specs.Options.{noOptions, over, nargsAllow}
+use Rattle.options.specs.Read.{rangeOf as options-Read-rangeOf, nameOf, isId, idOf, authOf, timeoutOf, argumentOf, settingOf, optionOf, only, optionsOf, argumentsOf, hasShell, twice}
+use Rattle.options.specs.Values.{idIn, optionsIn}
+use Rattle.condition.specs.Condition.{prefixed, unnegated, judgeOf, alternativesOf, conditionOf}
+use Rattle.condition.specs.Rightmost.{rightmost as condition-Rightmost-rightmost}
+use Rattle.condition.specs.Times.{timesAccept as condition-Times-timesAccept}
+use Rattle.condition.specs.Users.{userApplies, groupApplies, usersAccept}
+use Rattle.entry.specs.Entry.{fieldsFrom as entry-Entry-fieldsFrom, completed, entryOf, conditionsAccept}
+use Rattle.entry.specs.Field.{noField, followed, fullPath, hasPair, pairOf, commandOf, pathField, otherOf, fieldOf}
+use Rattle.entry.specs.Path.{starred, pathFor}
+use Rattle.entry.specs.Verdict.{verdictOn, verdictOf}
+use Rattle.reader.specs.Colon.{defineName, defineText, defineLine, globalLine, operatorOf, ifLine, colonWord}
+use Rattle.reader.specs.Read.{entryLine, fieldsRead, lineCause, lineRead}
+use Rattle.reader.specs.State.{start, withDefinition, withSettings, withEntry}
+use Rattle.answer.specs.Answer.{toldOf, isDecision, decidingLine}
+use Rattle.answer.specs.Cut.{endOfLine, nothingYet, cutPlace, cutAnswer, CutSafe}
+use Rattle.answer.specs.Meaning.{Asked, Outcome, result, strings, overlaid, grantedBy, step, verdict as answer-Meaning-verdict, answerOf}
 
 table : List ℕ
 table =
@@ -137,5 +153,5 @@ unfolding table buffer
 given c = answerOf (take (c .cut) table) (c .asked) buffer
 
 pub worked : map given cases ≡ map (λ c. c .expected) cases
-unfolding table buffer asks ago filled nothing clock clockSet log logged whole cutAt cases given toldOf isDecision decidingLine strings overlaid grantedBy answer-Meaning-step answer-Meaning-verdict answerOf entry-Entry-fieldsFrom completed entryOf starred pathFor conditionsAccept noField followed expanded pathOf hasPair pairOf commandOf fullPathOf prefixed unnegated userMarks timeMarks otherOf pieceOf userApplies groupApplies decidedBy usersAccept verdictOn verdictOf fault-Fault-numberOf readAll run outcome line-Joined-markOf modeAfter joinMarks modeJoined needsIndent startAt line-Joined-given line-Joined-after lastMarks bareAtEnd marks endState kindOf lines endsAt cutShort accepted refusedFrom refusedByte openQuote line-Scan-fieldsFrom line-Scan-verdict scanned passes argumentsFrom argumentsPass inForce failuresFrom failures options-Arguments-marked options-Arguments-joined noOptions over nargsAllow options-Read-rangeOf nameOf isId idOf authOf timeoutOf argumentOf settingOf optionOf only optionsOf argumentsOf hasShell twice pattern-Alternative-next partsAt partsOf goodPart alternativeOf signOf items escapedItems behindSet tails matchItems matches matchesSome bodyOf behind reach ranges members goodSet listed inSet depth number pattern-Tree-joined expansions fits pattern-Tree-markOf firstPiece readPattern readList patternOf listOf treeOf fresh passwordNeeded commandByte goodComponent goodCommand goodName goodGroups goodArgument goodArguments goodQuestion questionOf stringsOf stringsIn untilZero defineName defineText defineLine globalLine operatorOf ifLine colonWord entryLine fieldsRead lineCause lineRead reader-State-start withDefinition withSettings withEntry blank letter digit wordByte nameByte printable visible classOf text-Lists-all text-Lists-any count firstFault has splitAt digits text-Number-numberOf partAt same startsWith headIs findPair findByte hourOf minuteOf clockOf dayNames lowerOf shortens dayAmong dayOf compared times-Item-rangeOf spanOf itemOf onDay inSpan itemMatches itemAnswer rightmost timesAccept times-Rule-marked unmarked markedAll lookup define tooMany nameStart isName builtIn textOf quotingAfter stays refers variables-Substitute-word known closed reference pieces variables-Substitute-joined joinedUpToBad substituted fieldText
+unfolding table buffer asks ago filled nothing clock clockSet log logged whole cutAt cases given laid upTo blank letter digit wordByte nameByte printable visible classOf all any count firstFault has splitAt digits text-Number-numberOf partAt text-Quote-quotingAfter same startsWith headIs findPair findByte fault-Fault-numberOf readAll next partsAt partsOf goodPart alternativeOf signOf items escapedItems behindSet tails matchItems matches matchesSome ran flat opening bodyOf behind reach ranges members goodSet listed inSet seen nth depth number pattern-Tree-joined expansions fits pattern-Tree-markOf firstPiece readPattern readList patternOf listOf treeOf expanded sizeOf shapeOf expansionsOf expansionAt matchesPattern fresh passwordNeeded commandByte goodComponent goodCommand goodName goodGroups goodArgument goodArguments goodQuestion questionOf stringsOf stringsIn untilZero hourOf minuteOf clockOf dayNames lowerOf shortens dayAmong dayOf compared times-Item-rangeOf spanOf itemOf onDay inSpan itemMatches itemAnswer times-Rule-rightmost times-Rule-timesAccept times-Rule-marked unmarked markedAll closedOff counted countedAll keptOf line-Fields-textOf line-Fields-outcomeOf run outcome line-Joined-markOf modeAfter joinMarks modeJoined needsIndent startAt line-Joined-given after lastMarks bareAtEnd marks endState kindOf lines endsAt cutShort newlinesIn accepted refusedFrom refusedByte openQuote line-Scan-fieldsFrom line-Scan-verdict scanned stored line-Turns-filled plainByte lookup define tooMany nameStart isName builtIn variables-Scope-textOf nameAt textAt placesFrom definitionsIn placeOf variables-State-outcomeOf variables-Substitute-quotingAfter stays refers word known closed reference pieces variables-Substitute-joined joinedUpToBad substituted fieldText literal verbatim passes argumentsFrom argumentsPass inForce failuresFrom failures options-Arguments-marked options-Arguments-joined givenOf holds plus noOptions over nargsAllow options-Read-rangeOf nameOf isId idOf authOf timeoutOf argumentOf settingOf optionOf only optionsOf argumentsOf hasShell twice idIn optionsIn prefixed unnegated judgeOf alternativesOf conditionOf condition-Rightmost-rightmost condition-Times-timesAccept userApplies groupApplies usersAccept entry-Entry-fieldsFrom completed entryOf conditionsAccept noField followed fullPath hasPair pairOf commandOf pathField otherOf fieldOf starred pathFor verdictOn verdictOf defineName defineText defineLine globalLine operatorOf ifLine colonWord entryLine fieldsRead lineCause lineRead start withDefinition withSettings withEntry toldOf isDecision decidingLine endOfLine nothingYet cutPlace cutAnswer CutSafe strings overlaid grantedBy step answer-Meaning-verdict answerOf orElse
 worked = refl

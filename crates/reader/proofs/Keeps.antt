@@ -20,6 +20,7 @@ use Rattle.question.specs.Question.{Question}
 use Rattle.variables.specs.Scope.{Scope, Definition, definition, define, tooMany}
 use Rattle.variables.specs.Substitute.{fieldText}
 use Rattle.options.specs.Read.{Setting, twice}
+use Rattle.condition.specs.Condition.{judgeOf}
 use Rattle.entry.specs.Entry.{entryOf}
 use Rattle.entry.specs.Verdict.{Verdict, verdictOf}
 use Rattle.reader.specs.State.{State, Decision, decisionOf, scopeOf, withDefinition, withSettings, withEntry}
@@ -137,7 +138,7 @@ module _ (line end : ℕ) where
     unfolding entryLine withEntry
     by-entry s t fs e =
         let u = un-less (not (s .shell)) EntryTooEarly _ t e in
-        let v = and-then (entryOf q (scopeOf q s) fs) _ t (u .1) in
+        let v = and-then (entryOf (judgeOf (q .user) (q .groups) (q .host) (q .minute)) (scopeOf q s) fs) _ t (u .1) in
         record { own = verdictOf q (s .options) (s .arguments) (v .0); decides = ap (λ x. x .decision) (sym (same-value (v .2))) }
 
     by-kind : (deeper : Option (List (List ℕ) → Reading Cause State)) (s t : State) → Deeper deeper s t → (fs : List (List ℕ)) (k : LineKind) → byKind q line end deeper s fs k ≡ value t → Keeps line end s t

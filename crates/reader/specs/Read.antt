@@ -15,13 +15,14 @@ use Rattle.line.specs.Scan.{Scanned, scanned, fault as scanFault, fields}
 use Rattle.line.specs.Kind.{kindOf}
 use Rattle.question.specs.Question.{Question}
 use Rattle.variables.specs.Substitute.{fieldText}
+use Rattle.condition.specs.Condition.{judgeOf}
 use Rattle.entry.specs.Entry.{entryOf}
 use Rattle.reader.specs.State.{State, scopeOf, withEntry}
 use Rattle.reader.specs.Colon.{colonWord}
 
 -- an entry met before `patterns=shell` is a fault ahead of any in its fields
 unfoldable pub entryLine : Question → ℕ → ℕ → State → List (List ℕ) → Reading Cause State
-entryLine q line end s fs = unless (not (s .shell)) EntryTooEarly (andThen (entryOf q (scopeOf q s) fs) (λ e. value (withEntry q line end e s)))
+entryLine q line end s fs = unless (not (s .shell)) EntryTooEarly (andThen (entryOf (judgeOf (q .user) (q .groups) (q .host) (q .minute)) (scopeOf q s) fs) (λ e. value (withEntry q line end e s)))
 
 -- the first field is the colon word
 abbrev pub colonLine : Question → Option (List (List ℕ) → Reading Cause State) → State → List (List ℕ) → Reading Cause State

@@ -9,7 +9,7 @@ use Rattle.variables.specs.Scope.{Scope, Definition, define}
 use Rattle.options.specs.Options.{Options, noOptions, over}
 use Rattle.options.specs.Arguments.{ArgumentPattern}
 use Rattle.options.specs.Read.{Setting, optionsOf, argumentsOf, hasShell}
-use Rattle.entry.specs.Piece.{Entry}
+use Rattle.entry.specs.Field.{Entry}
 use Rattle.entry.specs.Verdict.{Verdict, verdictOf}
 
 -- the deciding line's number and end, and its entry's verdict

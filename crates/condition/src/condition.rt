@@ -1,1 +1,0 @@
-// One condition from a field's text.
