@@ -1,7 +1,7 @@
 -- A cut table, for any fold over control lines that decides once. Assumes nothing.
 use mathlib.Core.Path.{_≡_, refl, sym, ap, _∙_}
-use mathlib.Core.Bool.{Bool, true, false, not, cond, Bool·not-not}
-use mathlib.Core.List.{List, [], _∷_, _++_}
+use mathlib.Core.Bool.{not, cond, Bool·not-not}
+use mathlib.Core.List.{List, [], _∷_}
 use mathlib.Core.Option.{Option, none, some}
 use Prim.Native.Nat.{ℕ, suc, _≤_, _<_}
 use native.Mathlib.Omega.{arith}
@@ -10,10 +10,10 @@ use borrow.Author.Tests.{eq-eqb, ne-eqb, le-leb, lt-leb}
 use lib.Dec.{eqb, leb}
 use lib.ListN.{length, take}
 use Rattle.text.proofs.Laws.{clash}
-use Rattle.fault.specs.Fault.{Reading, fault, value, andThen, require}
+use Rattle.fault.specs.Fault.{Reading, fault, value, require}
 use Rattle.fault.proofs.Readings.{never, same-value, and-then, required}
 use Rattle.line.specs.Line.{Line, linesOf, notAbove, lastEnd, cutShort, cutPlace, endsAt, endOfLine}
-use Rattle.line.specs.Fold.{Refusal, faulty, cut, located, run, outcome}
+use Rattle.line.specs.Fold.{cut, located, run, outcome}
 use Rattle.line.proofs.LineLaws.{Ordered, lines-ordered, lines-cut, cut-short, none-above}
 
 -- `keeps`, a decision stays; `fresh`, it is made at the line whose number it has

@@ -1,2 +1,4 @@
 pub mod ReadLaws
+pub mod ShortSettings
+pub mod ShortEntries
 pub mod ShortIds

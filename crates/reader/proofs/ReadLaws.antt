@@ -1,9 +1,9 @@
 -- What a control line can do to the state, and so to the decision. Assumes nothing.
-use Prim.Native.Nat.{ℕ, zero, suc}
 use mathlib.Core.Path.{_≡_, refl, sym, ap, _∙_}
 use mathlib.Core.Bool.{Bool, true, false, not, cond, _||_}
 use mathlib.Core.List.{List, [], _∷_}
 use mathlib.Core.Option.{Option, none, some, orElse, Option·map}
+use Prim.Native.Nat.{ℕ, zero, suc}
 use Rattle.text.specs.Bytes.{bytes}
 use Rattle.text.specs.Lists.{null}
 use Rattle.text.specs.Slice.{same}
@@ -12,10 +12,8 @@ use Rattle.fault.specs.declared.Cause.the-variants.{ColonWord, EntryTooEarly, M
 use Rattle.fault.specs.Fault.{Reading, fault, value, readAll}
 use Rattle.fault.proofs.Readings.{never, same-value, and-then, required}
 use Rattle.line.specs.declared.kind.LineKind.{LineKind}
-use Rattle.line.specs.declared.kind.LineKind.the-variants.{NoField, Colon, Entry as EntryKind}
 use Rattle.line.specs.Line.{Line}
 use Rattle.line.specs.Kind.{kindOf}
-use Rattle.line.specs.Scan.{Scanned, scanned, fault as scanFault, fields}
 use Rattle.question.specs.Question.{Question}
 use Rattle.variables.specs.Scope.{Definition, definition, define, tooMany}
 use Rattle.variables.specs.Substitute.{fieldText}
@@ -25,7 +23,9 @@ use Rattle.entry.specs.Piece.{Entry}
 use Rattle.entry.specs.Verdict.{Verdict, verdictOf}
 use Rattle.reader.specs.State.{State, decidedAt, scopeOf, withDefinition, withSettings, withEntry}
 use Rattle.reader.specs.Colon.{defined, textAfter, defineName, defineText, defineLine, globalField, globalLine, operatorOf, holds, restIf, rightAfter, operatorAfter, ifLine, colonWord}
-use Rattle.reader.specs.Read.{entryLine, colonLine, byKind, fieldsRead, scannedRead, lineRead}
+use Rattle.reader.specs.Read.{entryLine, byKind, fieldsRead, scannedRead, lineRead}
+use Rattle.line.specs.declared.kind.LineKind.the-variants.{NoField, Colon, Entry as EntryKind}
+use Rattle.line.specs.Scan.{Scanned, scanned, fault as scanFault, fields}
 
 -- what a control line with this number makes of the state s: it stays, has one definition more, the options of a `:global` line, or one entry more
 pub data Change (q : Question) (line : ℕ) (s t : State) : Type 0 where
