@@ -1,14 +1,14 @@
 -- Lines that begin with a colon: `:define`, `:global`, `:if` (01, "Lines that begin with a colon").
 use Prim.Native.Nat.{ℕ}
-use mathlib.Core.Bool.{Bool, true, false, not, cond, _||_}
+use mathlib.Core.Bool.{Bool, true, false, not, cond, _&&_, _||_}
 use mathlib.Core.List.{List, [], _∷_}
 use mathlib.Core.Option.{Option, none, some}
-use lib.Dec.{ltb}
+use lib.Dec.{leb}
 use lib.ListN.{length}
 use Rattle.text.specs.Bytes.{bytes}
 use Rattle.text.specs.Lists.{null}
 use Rattle.text.specs.Slice.{same}
-use Rattle.fault.specs.Fault.{Reading, fault, value, andThen, readAll, needed, unless}
+use Rattle.fault.specs.Fault.{Reading, fault, value, andThen, readAll, needed, require}
 use Rattle.fault.specs.declared.Cause.{Cause}
 use Rattle.fault.specs.declared.Cause.the-variants.{NameLength, TextLength, IfDepth, OptionName, ColonWord, DefineName, Operator, SurplusField, MissingPart, OptionTwice, TooManyNames}
 use Rattle.variables.specs.Scope.{Scope, Definition, definition, define, isName, builtIn, tooMany}
@@ -18,14 +18,15 @@ use Rattle.reader.specs.State.{State, withDefinition, withSettings}
 
 -- a name's size, then its form; built-in names can't be redefined
 unfoldable pub defineName : List ℕ → Reading Cause (List ℕ)
-defineName n = unless (ltb 64 (length n)) NameLength (unless (not (isName n) || builtIn n) DefineName (value n))
+defineName n = require (leb (length n) 64) NameLength (require (isName n && not (builtIn n)) DefineName (value n))
 
+-- a text's size
 unfoldable pub defineText : List ℕ → Reading Cause (List ℕ)
-defineText t = unless (ltb 256 (length t)) TextLength (value t)
+defineText t = require (leb (length t) 256) TextLength (value t)
 
 -- nothing stands behind the text; last of all, more than 64 names
 abbrev pub defined : Scope → State → Definition → List (List ℕ) → Reading Cause State
-defined sc s d [] = unless (tooMany (define d (s .definitions))) TooManyNames (value (withDefinition d s))
+defined sc s d [] = require (not (tooMany (define d (s .definitions)))) TooManyNames (value (withDefinition d s))
 defined sc s d (f ∷ fs) = andThen (fieldText sc f) (λ t. fault SurplusField)
 
 abbrev pub textAfter : Scope → State → List ℕ → List (List ℕ) → Reading Cause State
@@ -43,7 +44,7 @@ globalField sc f = andThen (fieldText sc f) (λ t. needed OptionName (optionOf t
 
 -- `:global` with options only, at least one
 unfoldable pub globalLine : Scope → State → List (List ℕ) → Reading Cause State
-globalLine sc s fs = andThen (readAll (globalField sc) fs) (λ ss. unless (null ss) MissingPart (unless (twice ss) OptionTwice (value (withSettings ss s))))
+globalLine sc s fs = andThen (readAll (globalField sc) fs) (λ ss. require (not (null ss)) MissingPart (require (not (twice ss)) OptionTwice (value (withSettings ss s))))
 
 -- an operator tells whether equal bytes take the rest
 unfoldable pub operatorOf : List ℕ → Reading Cause Bool
