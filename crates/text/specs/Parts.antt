@@ -2,7 +2,7 @@
 use Prim.Native.Nat.{ℕ}
 use mathlib.Core.Bool.{Bool, true, false, cond}
 use mathlib.Core.List.{List, [], _∷_}
-use mathlib.Core.Option.{Option, none, some}
+use mathlib.Core.Option.{Option, none, some, Option·map}
 use lib.Dec.{eqb}
 
 -- the bytes in front of the parting byte, and those behind it
@@ -10,11 +10,7 @@ pub record Parts : Type 0 where
   pub front : List ℕ
   pub back : List ℕ
 
-abbrev pub behind : ℕ → Option Parts → Option Parts
-behind b none = none
-behind b (some p) = some (record { front = b ∷ p .front; back = p .back })
-
 -- the text parted at its first byte c; none where there is no such byte
 unfoldable pub partAt : ℕ → List ℕ → Option Parts
 partAt c [] = none
-partAt c (b ∷ s) = cond (eqb b c) (some (record { front = []; back = s })) (behind b (partAt c s))
+partAt c (b ∷ s) = cond (eqb b c) (some (record { front = []; back = s })) (Option·map (λ p. record { front = b ∷ p .front; back = p .back }) (partAt c s))

@@ -1,15 +1,19 @@
-use borrow.Author.Tests.{le-leb, lt-leb}
 use Rattle.text.specs.Class.{printable}
+use borrow.Author.Needs.{needs}
 use Rattle.text.proofs.class.is_printable.Statement.{statement}
 use Rattle.text.proofs.class.is_printable.Tie as tie
+use Rattle.text.proofs.class.is_printable.Reads as reads
+use Rattle.text.proofs.class.is_printable.Lts as lts
+use Rattle.text.proofs.class.is_within.Reads as is-within-reads
 
+-- src/class.rt:353:5
+is-within-requires : tie.Need-is-within-requires
+is-within-requires c κs = search needs
+
+-- src/class.rt:350:1
 returns : tie.Need-returns
 unfolding printable
-returns c = simp (le-leb _ _ (c .if1 .taken))
-
-returns-2 : tie.Need-returns-2
-unfolding printable
-returns-2 c = simp (lt-leb _ _ (c .if1 .left))
+returns c = c .is-within .ensures
 
 pub is-printable-spec : {M : Type 1} → statement M
-is-printable-spec = tie.close (tie.spec returns returns-2)
+is-printable-spec = tie.close (tie.spec is-within-requires returns)
