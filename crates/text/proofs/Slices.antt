@@ -1,5 +1,5 @@
 -- The laws of comparing and searching.
-use mathlib.Core.Path.{_≡_, refl, sym, ap}
+use mathlib.Core.Path.{_≡_, refl, sym, ap, _∙_}
 use mathlib.Core.Bool.{Bool, true, false, cond, _&&_, _||_}
 use mathlib.Core.List.{List, [], _∷_, _++_}
 use Prim.Native.Nat.{ℕ, zero, suc, _+_, _-_, _≤_, _<_}
@@ -9,7 +9,10 @@ use borrow.Author.Tests.{eq-eqb, ne-eqb, eqb-true}
 use lib.Dec.{eqb}
 use lib.ListN.{length, length-append, take, drop, getD, drop-of-length-le, length-drop}
 use Rattle.text.specs.Lists.{any, has}
-use Rattle.text.proofs.Laws.{next, both-true, both-no, false-of, same-test, clash}
+use Rattle.text.proofs.Laws.{next, part-rest, both-true, both-no, false-of, same-test, clash}
+use mathlib.Core.Option.{Option, none, some, Option·map}
+use Rattle.text.specs.Parts.{Parts, withFirst, partAtPair}
+use Rattle.text.specs.declared.slice.Found.{Found}
 use Rattle.text.specs.declared.slice.Found.the-variants.{At, Nothing}
 use Rattle.text.specs.Slice.{same, startsWith, headIs, findPair}
 use Rattle.text.specs.Contract.{lead, findByte}
@@ -147,6 +150,42 @@ pair-found c d at (x ∷ s) i e = go (eqb x c && headIs d s) refl (pair-found c 
 
 pub pair-at : (c d : ℕ) (s : List ℕ) (i : ℕ) → findPair c d 0 s ≡ At i → (i + 1 < length s) × (getD s i 0 ≡ c) × (getD s (i + 1) 0 ≡ d)
 pair-at c d s i e = let z : i - 0 ≡ i = omega arith in let r = pair-found c d 0 s i e in (rw z at (r .1), rw z at (r .2), rw z at (r .3))
+
+-- the two parts, by the place of the pair
+abbrev pairParts : ℕ → List ℕ → Found → Option Parts
+pairParts at s (At i) = some (record { front = take (i - at) s; back = drop (i - at + 2) s })
+pairParts at s Nothing = none
+
+pair-parts : (c d at : ℕ) (s : List ℕ) → partAtPair c d s ≡ pairParts at s (findPair c d at s)
+unfolding findPair partAtPair
+pair-parts c d at [] = refl
+pair-parts c d at (x ∷ s) = go (eqb x c && headIs d s) (pair-parts c d (at + 1) s)
+  where
+    on : (q : Found) → findPair c d (at + 1) s ≡ q → Option·map (withFirst x) (pairParts (at + 1) s q) ≡ pairParts at (x ∷ s) q
+    on Nothing e = refl
+    on (At i) e =
+        let h = pair-found c d (at + 1) s i e .0 in
+        let y : i - at + 2 ≡ suc (i - (at + 1) + 2) = omega (arith, h) in
+        let z : i - at ≡ suc (i - (at + 1)) = omega (arith, h) in
+        rw (y, z)
+
+    go : (t : Bool) → partAtPair c d s ≡ pairParts (at + 1) s (findPair c d (at + 1) s)
+        → cond t (some (record { front = []; back = drop 1 s })) (Option·map (withFirst x) (partAtPair c d s)) ≡ pairParts at (x ∷ s) (cond t (At at) (findPair c d (at + 1) s))
+    go true p = let z : at - at ≡ 0 = omega arith in rw z
+    go false p = ap (Option·map (withFirst x)) p ∙ on (findPair c d (at + 1) s) refl
+
+-- a text parted at its first pair, as the code has its two parts
+module _ (c d : ℕ) (s : List ℕ) (r : Found) (f : r ≡ findPair c d 0 s) where
+  pub pair-within : {i : ℕ} → r ≡ At i → i + 2 ≤ length s
+  pair-within {i} e = let t = pair-at c d s i (sym f ∙ e) in omega (arith, t .0)
+
+  pub pair-parted : {i : ℕ} → r ≡ At i → partAtPair c d s ≡ some (record { front = take (i - 0) (drop 0 s); back = take (length s - (i + 2)) (drop (i + 2) s) })
+  pair-parted {i} e =
+      let z : i - 0 + 2 ≡ i + 2 = omega arith in
+      pair-parts c d 0 s ∙ rw (sym f ∙ e, part-rest (i + 2) s, z)
+
+  pub pair-missing : r ≡ Nothing → partAtPair c d s ≡ none
+  pair-missing e = pair-parts c d 0 s ∙ rw (sym f ∙ e)
 
 -- where a pair stands, one is found there or before
 pub pair-there : (c d at : ℕ) (s : List ℕ) (j : ℕ) → j + 1 < length s → getD s j 0 ≡ c → getD s (j + 1) 0 ≡ d → (k : ℕ) × (findPair c d at s ≡ At k) × (k ≤ at + j)

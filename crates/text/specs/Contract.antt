@@ -3,11 +3,14 @@ use Prim.Native.Nat.{ℕ, suc, _+_}
 use mathlib.Core.Path.{_≡_}
 use mathlib.Core.Bool.{Bool, true, false, cond}
 use mathlib.Core.List.{List, [], _∷_}
+use mathlib.Core.Option.{Option, none, some}
 use lib.Dec.{eqb, leb, ltb}
 use lib.ListN.{length, set}
 use Rattle.text.specs.Class.{wordByte, nameByte, printable, commandByte}
 use Rattle.text.specs.declared.alphabet.Alphabet.{Alphabet}
 use Rattle.text.specs.declared.alphabet.Alphabet.the-variants.{Name, Word, Printable, Command}
+use Rattle.text.specs.declared.number.Number.{Number}
+use Rattle.text.specs.declared.number.Number.the-variants.{Value, Malformed}
 use Rattle.text.specs.declared.slice.Found.{Found}
 use Rattle.text.specs.declared.slice.Found.the-variants.{At, Nothing}
 use Rattle.text.specs.declared.buffer.Filled.{Filled}
@@ -19,6 +22,11 @@ inAlphabet Name = nameByte
 inAlphabet Word = wordByte
 inAlphabet Printable = printable
 inAlphabet Command = commandByte
+
+-- the code's answer as the definition's
+abbrev pub numberRead : Number → Option ℕ
+numberRead (Value v) = some v
+numberRead Malformed = none
 
 -- how many bytes stand in front of the first c, or of the end
 unfoldable pub lead : ℕ → List ℕ → ℕ

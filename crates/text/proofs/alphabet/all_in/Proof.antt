@@ -1,17 +1,14 @@
+use mathlib.Core.Path.{_≡_, refl, sym, _∙_}
+use Prim.Native.Nat.{_-_, _≤_}
+use native.Mathlib.Omega.{arith}
 use borrow.Author.Needs.{needs}
+use borrow.Author.Tests.{not-true, not-false}
+use lib.ListN.{length, drop}
 use Rattle.text.proofs.Lists.{all-on, all-off, all-end}
 use Rattle.text.specs.Contract.{inAlphabet}
 use Rattle.text.specs.Lists.{all}
-use lib.ListN.{length, drop}
-use borrow.Author.Tests.{not-true, not-false}
-use native.Mathlib.Omega.{arith}
-use Prim.Native.Nat.{_-_, _≤_}
-use mathlib.Core.Path.{_≡_, refl, sym, _∙_}
 use Rattle.text.proofs.alphabet.all_in.Statement.{statement}
 use Rattle.text.proofs.alphabet.all_in.Tie as tie
-use Rattle.text.proofs.alphabet.all_in.Reads as reads
-use Rattle.text.proofs.alphabet.all_in.Lts as lts
-use Rattle.text.proofs.alphabet.in_alphabet.Reads as in-alphabet-reads
 
 abbrev Inv-loop : tie.InvT-loop
 Inv-loop s alphabet i₀ i = (i ≤ length s) × (all (inAlphabet alphabet) (drop i s) ≡ all (inAlphabet alphabet) s)
@@ -19,35 +16,27 @@ Inv-loop s alphabet i₀ i = (i ≤ length s) × (all (inAlphabet alphabet) (dro
 abbrev μ-loop : tie.MeasureT-loop
 μ-loop s alphabet i₀ i = length s - i
 
--- src/alphabet.rt:38:5
 loop-holds : tie.Need-loop-holds Inv-loop μ-loop
 loop-holds c = (omega arith, refl)
 
--- src/alphabet.rt:39:25
 shared-slice-read-in-alphabet : tie.Need-shared-slice-read-in-alphabet Inv-loop μ-loop
 shared-slice-read-in-alphabet c = omega arith
 
--- src/alphabet.rt:39:13
 in-alphabet-requires : tie.Need-in-alphabet-requires Inv-loop μ-loop
 in-alphabet-requires c κs = search needs
 
--- src/alphabet.rt:40:13
 returns : tie.Need-returns Inv-loop μ-loop
 returns c = let l = c .before .before .before .before .loop in all-off 0 (inAlphabet (c .before .before .before .before .before .before .args .alphabet)) _ (l .i) (omega arith) (sym (c .before .in-alphabet .ensures) ∙ not-true _ (c .if1 .taken)) ∙ l .inv .1
 
--- src/alphabet.rt:42:9
 add-i : tie.Need-add-i Inv-loop μ-loop
 add-i c = omega arith
 
--- src/alphabet.rt:38:5
 loop-less : tie.Need-loop-less Inv-loop μ-loop
 loop-less c = omega arith
 
--- src/alphabet.rt:38:5
 loop-again : tie.Need-loop-again Inv-loop μ-loop
 loop-again c = let l = c .before .before .before .before .loop in (omega arith, all-on 0 (inAlphabet (c .before .before .before .before .before .before .args .alphabet)) _ (l .i) (omega arith) (sym (c .before .in-alphabet .ensures) ∙ not-false _ (c .if1 .left)) ∙ l .inv .1)
 
--- src/alphabet.rt:34:1
 returns-2 : tie.Need-returns-2 Inv-loop μ-loop
 returns-2 c = let l = c .before .loop in all-end (inAlphabet (c .before .before .before .args .alphabet)) _ (l .i) (c .loop-test .left) ∙ l .inv .1
 

@@ -1,59 +1,40 @@
-use mathlib.Core.Path.{sym, ap, _∙_}
 use borrow.Author.Needs.{needs}
 use Rattle.text.proofs.alphabet.in_alphabet.Statement.{statement}
 use Rattle.text.proofs.alphabet.in_alphabet.Tie as tie
-use Rattle.text.proofs.alphabet.in_alphabet.Reads as reads
-use Rattle.text.proofs.alphabet.in_alphabet.Lts as lts
-use Rattle.text.proofs.class.is_command_byte.Reads as is-command-byte-reads
-use Rattle.text.proofs.class.is_name_byte.Reads as is-name-byte-reads
-use Rattle.text.proofs.class.is_printable.Reads as is-printable-reads
-use Rattle.text.proofs.class.is_word_byte.Reads as is-word-byte-reads
 
--- src/alphabet.rt:26:27
 enum-told : tie.Need-enum-told
 enum-told c = search needs
 
--- src/alphabet.rt:26:27
 is-name-byte-requires : tie.Need-is-name-byte-requires
 is-name-byte-requires c κs = search needs
 
--- src/alphabet.rt:27:27
 enum-told-2 : tie.Need-enum-told-2
 enum-told-2 c = search needs
 
--- src/alphabet.rt:27:27
 is-word-byte-requires : tie.Need-is-word-byte-requires
 is-word-byte-requires c κs = search needs
 
--- src/alphabet.rt:28:32
 enum-told-3 : tie.Need-enum-told-3
 enum-told-3 c = search needs
 
--- src/alphabet.rt:28:32
 is-printable-requires : tie.Need-is-printable-requires
 is-printable-requires c κs = search needs
 
--- src/alphabet.rt:29:30
 enum-told-4 : tie.Need-enum-told-4
 enum-told-4 c = search needs
 
--- src/alphabet.rt:29:30
 is-command-byte-requires : tie.Need-is-command-byte-requires
 is-command-byte-requires c κs = search needs
 
--- src/alphabet.rt:22:1
 returns : tie.Need-returns
 returns c = rw (c .before .enum-told .given .1) (c .is-name-byte .ensures)
 
--- src/alphabet.rt:22:1
 returns-2 : tie.Need-returns-2
 returns-2 c = rw (c .before .enum-told2 .given .1) (c .is-word-byte .ensures)
 
--- src/alphabet.rt:22:1
 returns-3 : tie.Need-returns-3
 returns-3 c = rw (c .before .enum-told3 .given .1) (c .is-printable .ensures)
 
--- src/alphabet.rt:22:1
 returns-4 : tie.Need-returns-4
 returns-4 c = rw (c .before .enum-told4 .given .1) (c .is-command-byte .ensures)
 

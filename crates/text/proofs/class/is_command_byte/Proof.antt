@@ -1,22 +1,16 @@
-use Rattle.text.specs.Class.{commandByte}
 use mathlib.Core.Path.{sym, _∙_}
 use borrow.Author.Needs.{needs}
+use Rattle.text.specs.Class.{commandByte}
 use Rattle.text.proofs.class.is_command_byte.Statement.{statement}
 use Rattle.text.proofs.class.is_command_byte.Tie as tie
-use Rattle.text.proofs.class.is_command_byte.Reads as reads
-use Rattle.text.proofs.class.is_command_byte.Lts as lts
-use Rattle.text.proofs.class.is_within.Reads as is-within-reads
 
--- src/class.rt:360:8
 is-within-requires : tie.Need-is-within-requires
 is-within-requires c κs = search needs
 
--- src/class.rt:361:9
 returns : tie.Need-returns
 unfolding commandByte
 returns c = rw (sym (c .before .is-within .ensures) ∙ c .if1 .taken)
 
--- src/class.rt:357:1
 returns-2 : tie.Need-returns-2
 unfolding commandByte
 returns-2 c = rw (sym (c .before .is-within .ensures) ∙ c .if1 .left)

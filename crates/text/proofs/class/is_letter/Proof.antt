@@ -1,26 +1,19 @@
-use Rattle.text.specs.Class.{letter}
 use mathlib.Core.Path.{sym, _∙_}
 use borrow.Author.Needs.{needs}
+use Rattle.text.specs.Class.{letter}
 use Rattle.text.proofs.class.is_letter.Statement.{statement}
 use Rattle.text.proofs.class.is_letter.Tie as tie
-use Rattle.text.proofs.class.is_letter.Reads as reads
-use Rattle.text.proofs.class.is_letter.Lts as lts
-use Rattle.text.proofs.class.is_within.Reads as is-within-reads
 
--- src/class.rt:313:8
 is-within-requires : tie.Need-is-within-requires
 is-within-requires c κs = search needs
 
--- src/class.rt:314:9
 returns : tie.Need-returns
 unfolding letter
 returns c = rw (sym (c .before .is-within .ensures) ∙ c .if1 .taken)
 
--- src/class.rt:316:5
 is-within-requires-2 : tie.Need-is-within-requires-2
 is-within-requires-2 c κs = search needs
 
--- src/class.rt:310:1
 returns-2 : tie.Need-returns-2
 unfolding letter
 returns-2 c = c .is-within2 .ensures ∙ rw (sym (c .before .before .is-within .ensures) ∙ c .before .if1 .left)

@@ -1,28 +1,21 @@
-use Rattle.text.specs.Class.{nameByte}
-use borrow.Author.Tests.{eq-eqb, ne-eqb}
 use mathlib.Core.Path.{sym, _∙_}
+use borrow.Author.Tests.{eq-eqb, ne-eqb}
 use borrow.Author.Needs.{needs}
+use Rattle.text.specs.Class.{nameByte}
 use Rattle.text.proofs.class.is_name_byte.Statement.{statement}
 use Rattle.text.proofs.class.is_name_byte.Tie as tie
-use Rattle.text.proofs.class.is_name_byte.Reads as reads
-use Rattle.text.proofs.class.is_name_byte.Lts as lts
-use Rattle.text.proofs.class.is_word_byte.Reads as is-word-byte-reads
 
--- src/class.rt:343:8
 is-word-byte-requires : tie.Need-is-word-byte-requires
 is-word-byte-requires c κs = search needs
 
--- src/class.rt:344:9
 returns : tie.Need-returns
 unfolding nameByte
 returns c = rw (sym (c .before .is-word-byte .ensures) ∙ c .if1 .taken)
 
--- src/class.rt:340:1
 returns-2 : tie.Need-returns-2
 unfolding nameByte
 returns-2 c = rw (sym (c .before .before .is-word-byte .ensures) ∙ c .before .if1 .left, eq-eqb _ _ (c .if2 .taken))
 
--- src/class.rt:340:1
 returns-3 : tie.Need-returns-3
 unfolding nameByte
 returns-3 c = rw (sym (c .before .before .is-word-byte .ensures) ∙ c .before .if1 .left, ne-eqb _ _ (c .if2 .left))

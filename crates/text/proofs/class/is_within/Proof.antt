@@ -1,14 +1,10 @@
 use borrow.Author.Tests.{le-leb, lt-leb}
 use Rattle.text.proofs.class.is_within.Statement.{statement}
 use Rattle.text.proofs.class.is_within.Tie as tie
-use Rattle.text.proofs.class.is_within.Reads as reads
-use Rattle.text.proofs.class.is_within.Lts as lts
 
--- src/class.rt:303:1
 returns : tie.Need-returns
 returns c = simp (le-leb _ _ (c .if1 .taken))
 
--- src/class.rt:303:1
 returns-2 : tie.Need-returns-2
 returns-2 c = simp (lt-leb _ _ (c .if1 .left))
 
