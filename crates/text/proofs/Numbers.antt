@@ -10,7 +10,7 @@ use native.Mathlib.Omega.{arith}
 use borrow.Author.Tests.{le-leb, lt-leb, leb-true}
 use lib.Dec.{leb, lit<}
 use lib.ListN.{length, drop, getD, drop-of-length-le}
-use Rattle.text.proofs.Laws.{next, both-true, both-no}
+use Rattle.text.proofs.Laws.{next, both-true, both-no, chosen}
 use Rattle.text.specs.declared.number.Number.{Number}
 use Rattle.text.specs.declared.number.Number.the-variants.{Value, Malformed}
 use Rattle.text.specs.Number.{digits, decimalOf, numberFrom, numberOf}
@@ -63,11 +63,6 @@ grow v i d h k = rw (add-one i, pow-suc 10 i) (omega arith)
 
 pub small : (v i : ℕ) → v < 10 ^ i → i ≤ 5 → v < 100000
 small v i h k = let p : 10 ^ i ≤ 10 ^ 5 = pow-le-pow-right (lit< tt) k in omega arith
-
--- a choice of some number or none that is some
-pub chosen : {A : Type 0} (t : Bool) (o : Option A) (w : A) → cond t o none ≡ some w → (t ≡ true) × (o ≡ some w)
-chosen true o w e = (refl, e)
-chosen false o w e = (cc, cc)
 
 digits-bound : (s : List ℕ) (v i w : ℕ) → v < 10 ^ i → digits v s ≡ some w → w < 10 ^ (i + length s)
 unfolding digits
