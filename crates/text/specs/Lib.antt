@@ -4,5 +4,6 @@ pub mod Class
 pub mod Quote
 pub mod Slice
 pub mod Number
-pub mod Buffer
 pub mod Parts
+pub mod Contract
+pub mod Buffer
