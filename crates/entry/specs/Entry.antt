@@ -8,7 +8,7 @@ use Rattle.text.specs.Lists.{null}
 use Rattle.fault.specs.Fault.{Reading, fault, value, andThen, unless}
 use Rattle.fault.specs.declared.Cause.{Cause}
 use Rattle.fault.specs.declared.Cause.the-variants.{MissingPart, OptionTwice}
-use Rattle.pattern.specs.Match.{matchesSome}
+use Rattle.glob.specs.Match.{matchesSome}
 use Rattle.question.specs.Question.{Question}
 use Rattle.times.specs.Rule.{TimeMark, timesAccept}
 use Rattle.variables.specs.Scope.{Scope}

@@ -15,10 +15,10 @@ use Rattle.text.specs.declared.slice.Found.the-variants.{At, Nothing}
 use Rattle.fault.specs.Fault.{Reading, fault, value, andThen, readAll, needed, unless}
 use Rattle.fault.specs.declared.Cause.{Cause}
 use Rattle.fault.specs.declared.Cause.the-variants.{Pattern, PatternSize, Alternative as BadAlternative, TimeItem, OptionName, LatePair, Path}
-use Rattle.pattern.specs.declared.Kind.{Kind}
-use Rattle.pattern.specs.declared.Kind.the-variants.{Plain, Condition, Time}
+use Rattle.pattern.specs.declared.Syntax.{Syntax}
+use Rattle.pattern.specs.declared.Syntax.the-variants.{Plain, Condition, Time}
 use Rattle.pattern.specs.Tree.{Tree, treeOf, fits, expansions}
-use Rattle.pattern.specs.Alternative.{Alternative, alternativeOf}
+use Rattle.glob.specs.Alternative.{Alternative, alternativeOf}
 use Rattle.question.specs.Question.{Question}
 use Rattle.times.specs.Item.{itemOf, itemMatches}
 use Rattle.times.specs.Rule.{TimeMark}
@@ -70,7 +70,7 @@ abbrev pub piece : Entry → Position → Piece
 piece e p = record { part = e; next = p }
 
 -- a pattern's brace-free expansions: well formed first, then depth and number
-unfoldable pub expanded : Kind → List ℕ → Reading Cause (List (List ℕ))
+unfoldable pub expanded : Syntax → List ℕ → Reading Cause (List (List ℕ))
 expanded k p = needed Pattern (treeOf k p) (λ t. unless (not (fits t)) PatternSize (value (expansions t)))
 
 -- a path begins with `/` and has no blank

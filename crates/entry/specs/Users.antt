@@ -6,8 +6,8 @@ use mathlib.Core.Option.{Option, none, some}
 use Rattle.text.specs.Bytes.{bytes}
 use Rattle.text.specs.Lists.{any}
 use Rattle.text.specs.Slice.{same}
-use Rattle.pattern.specs.Match.{matches}
-use Rattle.pattern.specs.Alternative.{Alternative}
+use Rattle.glob.specs.Match.{matches}
+use Rattle.glob.specs.Alternative.{Alternative}
 use Rattle.question.specs.Question.{Question}
 
 -- one alternative of a user or group condition
