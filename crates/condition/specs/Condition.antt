@@ -10,10 +10,10 @@ use Rattle.text.specs.Slice.{startsWith, headIs}
 use Rattle.fault.specs.Fault.{Reading, value, andThen, readAll, needed, require}
 use Rattle.fault.specs.declared.Cause.{Cause}
 use Rattle.fault.specs.declared.Cause.the-variants.{Alternative as BadAlternative, TimeItem, OptionName}
-use Rattle.pattern.specs.declared.Kind.{Kind}
-use Rattle.pattern.specs.declared.Kind.the-variants.{Condition as ConditionKind, Time as TimeKind}
+use Rattle.pattern.specs.declared.Syntax.{Syntax}
+use Rattle.pattern.specs.declared.Syntax.the-variants.{Condition as ConditionKind, Time as TimeKind}
 use Rattle.pattern.specs.Tree.{expanded}
-use Rattle.pattern.specs.Alternative.{alternativeOf}
+use Rattle.glob.specs.Alternative.{alternativeOf}
 use Rattle.times.specs.Item.{itemOf, itemMatches}
 use Rattle.condition.specs.Rightmost.{Judged, judged}
 use Rattle.condition.specs.Users.{userApplies, groupApplies}
@@ -49,7 +49,7 @@ judgeOf caller groups host minute user e = Option·map (userApplies caller host)
 judgeOf caller groups host minute group e = Option·map (groupApplies groups host) (alternativeOf e)
 judgeOf caller groups host minute time e = Option·map (λ i. itemMatches i minute) (itemOf e)
 
-abbrev pub kindFor : Sort → Kind
+abbrev pub kindFor : Sort → Syntax
 kindFor user = ConditionKind
 kindFor group = ConditionKind
 kindFor time = TimeKind

@@ -5,8 +5,8 @@ use mathlib.Core.List.{List, [], _∷_}
 use mathlib.Core.Option.{Option, none, some, Option·map}
 use lib.ListN.{drop}
 use Rattle.text.specs.Lists.{any}
-use Rattle.pattern.specs.Match.{matches}
-use Rattle.pattern.specs.Alternative.{Alternative, alternativeOf}
+use Rattle.glob.specs.Match.{matches}
+use Rattle.glob.specs.Alternative.{Alternative, alternativeOf}
 use Rattle.times.specs.Item.{itemOf, itemMatches}
 use Rattle.condition.specs.declared.rightmost.Rightmost.{Rightmost}
 use Rattle.condition.specs.declared.prefix.Asks.{Asks}

@@ -13,7 +13,7 @@ use Rattle.text.specs.declared.slice.Found.the-variants.{At, Nothing}
 use Rattle.fault.specs.Fault.{Reading, fault, value, andThen, require}
 use Rattle.fault.specs.declared.Cause.{Cause}
 use Rattle.fault.specs.declared.Cause.the-variants.{LatePair, Path}
-use Rattle.pattern.specs.declared.Kind.the-variants.{Plain}
+use Rattle.pattern.specs.declared.Syntax.the-variants.{Plain}
 use Rattle.pattern.specs.Tree.{expanded}
 use Rattle.options.specs.Read.{Setting, optionOf}
 use Rattle.condition.specs.Rightmost.{Judged}

@@ -15,7 +15,7 @@ use Rattle.text.proofs.Laws.{next-of, both-no, both-yes, not-both}
 use Rattle.text.proofs.Lists.{all-append}
 use Rattle.question.specs.Strings.{stringsIn, untilZero}
 use Rattle.question.proofs.ZeroEnded.{in-at, in-open, in-end}
-use Rattle.pattern.specs.declared.Kind.the-variants.{Plain}
+use Rattle.pattern.specs.declared.Syntax.the-variants.{Plain}
 use Rattle.pattern.specs.Whole.{matchesPattern}
 use Rattle.options.specs.Options.{range}
 use Rattle.options.specs.Arguments.{ArgumentPattern, patternAt, passes, argumentsFrom, argumentsPass, inForce, failuresFrom, failures, marked, joined}

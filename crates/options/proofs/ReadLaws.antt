@@ -15,8 +15,8 @@ use Rattle.text.specs.Bytes.{bytes}
 use Rattle.text.specs.Slice.{same, findByte}
 use Rattle.text.proofs.Laws.{part-rest}
 use Rattle.pattern.specs.Tree.{Tree, treeOf, depth, number, fits}
-use Rattle.pattern.specs.Whole.{shapeIn, sizeOf, shapeOf}
-use Rattle.pattern.specs.declared.Kind.the-variants.{Plain}
+use Rattle.pattern.specs.Contract.{shapeIn, sizeOf, shapeOf}
+use Rattle.pattern.specs.declared.Syntax.the-variants.{Plain}
 use Rattle.pattern.specs.declared.Pattern.{Pattern}
 use Rattle.pattern.specs.declared.Shape.{Shape}
 use Rattle.pattern.specs.declared.Shape.the-variants.{Malformed, Read}

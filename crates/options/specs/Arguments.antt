@@ -3,9 +3,9 @@ use Prim.Native.Nat.{ℕ, zero, suc, _+_}
 use mathlib.Core.Bool.{Bool, true, false, not, _&&_, _||_}
 use mathlib.Core.List.{List, [], _∷_, _++_}
 use Rattle.text.specs.Lists.{all}
-use Rattle.pattern.specs.Match.{matchesSome}
-use Rattle.pattern.specs.Whole.{expansionsOf}
-use Rattle.pattern.specs.declared.Kind.the-variants.{Plain}
+use Rattle.glob.specs.Match.{matchesSome}
+use Rattle.pattern.specs.Whole.{fieldExpansions}
+use Rattle.pattern.specs.declared.Syntax.the-variants.{Plain}
 use Rattle.options.specs.Options.{Range, inRange}
 
 -- the positions that a pattern covers, from 1 on, and its brace-free expansions
@@ -15,7 +15,7 @@ pub record ArgumentPattern : Type 0 where
 
 -- a pattern as written, for a range of positions
 abbrev pub patternAt : Range → List ℕ → ArgumentPattern
-patternAt r p = record { positions = r; expansions = expansionsOf Plain p }
+patternAt r p = record { positions = r; expansions = fieldExpansions Plain p }
 
 -- the argument at a position passes a pattern that does not cover it, or that it matches
 unfoldable pub passes : ℕ → List ℕ → ArgumentPattern → Bool

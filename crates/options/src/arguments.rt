@@ -2,7 +2,7 @@
 use super::or;
 use super::read::OptionRead;
 use super::read::value_at;
-use pattern::Kind;
+use pattern::Syntax;
 use pattern::matcher::matches_pattern;
 use question::strings::string_end;
 ghost use mathlib.Core.Path.{_≡_};
@@ -40,7 +40,7 @@ fn fails(
     if last < position {
         return false;
     }
-    !matches_pattern(Kind::Plain, pattern, argument)
+    !matches_pattern(Syntax::Plain, pattern, argument)
 }
 
 impl Failures {

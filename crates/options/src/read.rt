@@ -9,7 +9,7 @@ use super::span::range_of;
 use super::timeout::Timeout;
 use super::timeout::timeout_of;
 use fault::Cause;
-use pattern::Kind;
+use pattern::Syntax;
 use pattern::Shape;
 use pattern::reader::read_pattern;
 use question::Limits;
@@ -109,7 +109,7 @@ fn read_argument(text: &[u8], at: usize, first: usize, last: usize) -> OptionRea
     requires { ⌜ at ≤ length (now text) ⌝ }
     ensures { λ r. ⌜ settingIn (now (text .entry)) r ≡ some (argumentOf (range first last) (drop at (now (text .entry)))) ⌝ }
 {
-    match read_pattern(Kind::Plain, &text[at..]) {
+    match read_pattern(Syntax::Plain, &text[at..]) {
         Shape::Malformed => OptionRead::Faulty(Cause::Pattern),
         Shape::Read(size) => {
             if size.fits() {

@@ -13,7 +13,7 @@ use Rattle.fault.specs.declared.Cause.{Cause}
 use Rattle.fault.specs.declared.Cause.the-variants.{LatePair, MissingPart, OptionTwice}
 use Rattle.fault.specs.Fault.{Reading}
 use Rattle.fault.proofs.Readings.{Gives, gives-fault, gives-value, gives-then, gives-after, gives-require, Each}
-use Rattle.pattern.specs.declared.Kind.the-variants.{Plain}
+use Rattle.pattern.specs.declared.Syntax.the-variants.{Plain}
 use Rattle.pattern.specs.Tree.{expanded}
 use Rattle.variables.specs.Scope.{Scope}
 use Rattle.variables.specs.Substitute.{fieldText}

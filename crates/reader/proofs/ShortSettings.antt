@@ -21,7 +21,7 @@ use Rattle.fault.specs.declared.Cause.{Cause}
 use Rattle.fault.specs.declared.Cause.the-variants.{Pattern, PatternSize, IdLength, OptionValue, PatternKind, OptionName}
 use Rattle.fault.specs.Fault.{Reading, fault, value, needed, unless}
 use Rattle.fault.proofs.Readings.{never, Gives, gives-fault, gives-value, gives-after, gives-needed, Each}
-use Rattle.pattern.specs.declared.Kind.the-variants.{Plain}
+use Rattle.pattern.specs.declared.Syntax.the-variants.{Plain}
 use Rattle.pattern.specs.Tree.{treeOf, fits}
 use Rattle.variables.specs.Scope.{Scope}
 use Rattle.variables.specs.Substitute.{fieldText}

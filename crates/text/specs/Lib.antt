@@ -1,4 +1,5 @@
 pub mod Bytes
+pub mod Limits
 pub mod Lists
 pub mod Class
 pub mod Quote
