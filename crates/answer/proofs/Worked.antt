@@ -3,6 +3,7 @@ use Prim.Native.Nat.{ℕ, _+_}
 use mathlib.Core.Path.{_≡_, refl}
 use mathlib.Core.Bool.{Bool, true, false}
 use mathlib.Core.List.{List, [], _∷_, _++_, map}
+use mathlib.Core.Option.{orElse}
 use lib.IntN.{ℤ, pos, negsuc}
 use lib.ListN.{length, take, drop, replicate}
 use Rattle.text.specs.Bytes.{bytes}
@@ -29,13 +30,13 @@ use Rattle.line.specs.Kind.{kindOf}
 use Rattle.line.specs.Line.{lines, endsAt, cutShort}
 use Rattle.line.specs.Refused.{accepted, refusedFrom, refusedByte}
 use Rattle.line.specs.Scan.{openQuote, fieldsFrom as line-Scan-fieldsFrom, verdict as line-Scan-verdict, scanned}
-use Rattle.options.specs.Arguments.{passes, argumentsFrom, argumentsPass, inForce, failuresFrom, failures, marked as options-Arguments-marked, joined as options-Arguments-joined}
+use Rattle.options.specs.Arguments.{passes, argumentsFrom, argumentsPass, inForce}
 use Rattle.options.specs.Options.{noOptions, over, nargsAllow}
-use Rattle.options.specs.Read.{rangeOf as options-Read-rangeOf, nameOf, isId, idOf, authOf, timeoutOf, argumentOf, settingOf, optionOf, only, optionsOf, argumentsOf, hasShell, twice}
+use Rattle.options.specs.Read.{numberRange, isId, idOf, authOf, timeoutOf, argumentOf, optionNamed, optionOf, optionsOf, argumentsOf, hasShell, twice}
 use Rattle.pattern.specs.Alternative.{next as pattern-Alternative-next, partsAt, partsOf, goodPart, alternativeOf}
 use Rattle.pattern.specs.Match.{signOf, items, escapedItems, behindSet, tails, matchItems, matches, matchesSome}
 use Rattle.pattern.specs.Set.{bodyOf, behind, reach, ranges, members, goodSet, listed, inSet}
-use Rattle.pattern.specs.Tree.{depth, number, joined as pattern-Tree-joined, expansions, fits, markOf as pattern-Tree-markOf, firstPiece, readPattern, readList, patternOf, listOf, treeOf}
+use Rattle.pattern.specs.Tree.{depth, number, joined as pattern-Tree-joined, expansions, fits, markOf as pattern-Tree-markOf, firstPiece, readPattern, readList, patternOf, listOf, treeOf, expanded as pattern-Tree-expanded}
 use Rattle.question.specs.Password.{fresh, passwordNeeded}
 use Rattle.question.specs.Question.{commandByte, goodComponent, goodCommand, goodName, goodGroups, goodArgument, goodArguments, goodQuestion, questionOf}
 use Rattle.question.specs.Strings.{stringsOf, stringsIn, untilZero}
@@ -137,5 +138,5 @@ unfolding table buffer
 given c = answerOf (take (c .cut) table) (c .asked) buffer
 
 pub worked : map given cases ≡ map (λ c. c .expected) cases
-unfolding table buffer asks ago filled nothing clock clockSet log logged whole cutAt cases given toldOf isDecision decidingLine strings overlaid grantedBy answer-Meaning-step answer-Meaning-verdict answerOf entry-Entry-fieldsFrom completed entryOf starred pathFor conditionsAccept noField followed expanded pathOf hasPair pairOf commandOf fullPathOf prefixed unnegated userMarks timeMarks otherOf pieceOf userApplies groupApplies decidedBy usersAccept verdictOn verdictOf fault-Fault-numberOf readAll run outcome line-Joined-markOf modeAfter joinMarks modeJoined needsIndent startAt line-Joined-given line-Joined-after lastMarks bareAtEnd marks endState kindOf lines endsAt cutShort accepted refusedFrom refusedByte openQuote line-Scan-fieldsFrom line-Scan-verdict scanned passes argumentsFrom argumentsPass inForce failuresFrom failures options-Arguments-marked options-Arguments-joined noOptions over nargsAllow options-Read-rangeOf nameOf isId idOf authOf timeoutOf argumentOf settingOf optionOf only optionsOf argumentsOf hasShell twice pattern-Alternative-next partsAt partsOf goodPart alternativeOf signOf items escapedItems behindSet tails matchItems matches matchesSome bodyOf behind reach ranges members goodSet listed inSet depth number pattern-Tree-joined expansions fits pattern-Tree-markOf firstPiece readPattern readList patternOf listOf treeOf fresh passwordNeeded commandByte goodComponent goodCommand goodName goodGroups goodArgument goodArguments goodQuestion questionOf stringsOf stringsIn untilZero defineName defineText defineLine globalLine operatorOf ifLine colonWord entryLine fieldsRead lineCause lineRead reader-State-start withDefinition withSettings withEntry blank letter digit wordByte nameByte printable visible classOf text-Lists-all text-Lists-any count firstFault has splitAt digits text-Number-numberOf partAt same startsWith headIs findPair findByte hourOf minuteOf clockOf dayNames lowerOf shortens dayAmong dayOf compared times-Item-rangeOf spanOf itemOf onDay inSpan itemMatches itemAnswer rightmost timesAccept times-Rule-marked unmarked markedAll lookup define tooMany nameStart isName builtIn textOf quotingAfter stays refers variables-Substitute-word known closed reference pieces variables-Substitute-joined joinedUpToBad substituted fieldText
+unfolding table buffer asks ago filled nothing clock clockSet log logged whole cutAt cases given toldOf isDecision decidingLine strings overlaid grantedBy answer-Meaning-step answer-Meaning-verdict answerOf entry-Entry-fieldsFrom completed entryOf starred pathFor conditionsAccept noField followed expanded pathOf hasPair pairOf commandOf fullPathOf prefixed unnegated userMarks timeMarks otherOf pieceOf userApplies groupApplies decidedBy usersAccept verdictOn verdictOf fault-Fault-numberOf readAll run outcome line-Joined-markOf modeAfter joinMarks modeJoined needsIndent startAt line-Joined-given line-Joined-after lastMarks bareAtEnd marks endState kindOf lines endsAt cutShort accepted refusedFrom refusedByte openQuote line-Scan-fieldsFrom line-Scan-verdict scanned orElse passes argumentsFrom argumentsPass inForce noOptions over nargsAllow numberRange isId idOf authOf timeoutOf argumentOf optionNamed optionOf optionsOf argumentsOf hasShell twice pattern-Alternative-next partsAt partsOf goodPart alternativeOf signOf items escapedItems behindSet tails matchItems matches matchesSome bodyOf behind reach ranges members goodSet listed inSet depth number pattern-Tree-joined expansions fits pattern-Tree-markOf firstPiece readPattern readList patternOf listOf treeOf pattern-Tree-expanded fresh passwordNeeded commandByte goodComponent goodCommand goodName goodGroups goodArgument goodArguments goodQuestion questionOf stringsOf stringsIn untilZero defineName defineText defineLine globalLine operatorOf ifLine colonWord entryLine fieldsRead lineCause lineRead reader-State-start withDefinition withSettings withEntry blank letter digit wordByte nameByte printable visible classOf text-Lists-all text-Lists-any count firstFault has splitAt digits text-Number-numberOf partAt same startsWith headIs findPair findByte hourOf minuteOf clockOf dayNames lowerOf shortens dayAmong dayOf compared times-Item-rangeOf spanOf itemOf onDay inSpan itemMatches itemAnswer rightmost timesAccept times-Rule-marked unmarked markedAll lookup define tooMany nameStart isName builtIn textOf quotingAfter stays refers variables-Substitute-word known closed reference pieces variables-Substitute-joined joinedUpToBad substituted fieldText
 worked = refl
