@@ -14,7 +14,8 @@ use Rattle.question.specs.declared.LastAuthentication.{LastAuthentication}
 use Rattle.question.specs.Question.{Question, questionOf}
 use Rattle.line.specs.Fold.{Refusal, faulty, cut, outcome}
 use Rattle.line.specs.Refused.{refusedByte}
-use Rattle.options.specs.Options.{Options, Range, authOr, idOr}
+use Rattle.text.specs.Class.{Range}
+use Rattle.options.specs.Options.{Options, authOr, idOr}
 use Rattle.entry.specs.Verdict.{Verdict, permit, password, stoppedByNargs, stoppedByArgument, stoppedByPath}
 use Rattle.reader.specs.State.{State, Decision, start}
 use Rattle.reader.specs.Read.{lineRead}
