@@ -8,7 +8,7 @@ use native.Mathlib.Numerals.{add-one}
 use native.Mathlib.Omega.{arith}
 use borrow.Author.Tests.{le-leb, lt-leb, leb-true, leb-false}
 use lib.ListN.{length, getD, drop, take, set, length-set, length-append, drop-of-length-le}
-use lib.Seq.{set-out, sets, sets-eq, take-suc-set, drop-set-lt, drop-drop, take-at, length-take-le}
+use lib.Seq.{set-out, sets, sets-eq, take-at, length-take-le}
 use lib.Dec.{leb}
 use Rattle.text.proofs.Laws.{next}
 use Rattle.text.specs.declared.buffer.Filled.{Filled}
@@ -48,13 +48,6 @@ laid-sets out n (b ∷ xs) = rw add-one (laid-sets (set out n b) (suc n) xs)
 -- where all fits, what stands where
 pub laid-is : (out : List ℕ) (n : ℕ) (xs : List ℕ) → n + length xs ≤ length out → laid out n xs ≡ take n out ++ xs ++ drop (n + length xs) out
 laid-is out n xs h = laid-sets out n xs ∙ sets-eq xs out n h
-
--- for a definition that appends, with `take m` of the buffer as what has been appended: a store at m, seen from before and behind
-pub store-take : (l : List ℕ) (m b : ℕ) → m < length l → take (m + 1) (set l m b) ≡ take m l ++ (b ∷ [])
-store-take l m b h = rw (add-one, take-suc-set l m b)
-
-pub store-drop : (l old : List ℕ) (m b : ℕ) → drop m l ≡ drop m old → drop (m + 1) (set l m b) ≡ drop (m + 1) old
-store-drop l old m b e = drop-set-lt (m + 1) l m b (omega arith) ∙ sym (drop-drop 1 m l) ∙ ap (drop 1) e ∙ drop-drop 1 m old
 
 -- what was laid, read back
 pub laid-take : (out : List ℕ) (n : ℕ) (xs : List ℕ) → n + length xs ≤ length out → take (n + length xs) (laid out n xs) ≡ take n out ++ xs

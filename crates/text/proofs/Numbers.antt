@@ -1,20 +1,20 @@
 -- The laws of decimal numbers.
 use mathlib.Core.Path.{_≡_, refl, ap, _∙_}
-use mathlib.Core.Bool.{Bool, true, false, cond}
-use mathlib.Core.List.{List, [], _∷_}
+use mathlib.Core.Bool.{true, false}
+use mathlib.Core.List.{List}
 use mathlib.Core.Option.{Option, none, some}
-use Prim.Native.Nat.{ℕ, suc, _+_, _*_, _-_, _^_, _≤_, _<_}
-use native.Mathlib.Nat.{pow-suc, pow-le-pow-right, add-zero, zero-add}
+use Prim.Native.Nat.{ℕ, _+_, _*_, _-_, _^_, _≤_, _<_}
+use native.Mathlib.Nat.{pow-suc, pow-le-pow-right}
 use native.Mathlib.Numerals.{add-one}
 use native.Mathlib.Omega.{arith}
 use borrow.Author.Tests.{le-leb, lt-leb, leb-true}
 use lib.Dec.{leb, lit<}
 use lib.ListN.{length, drop, getD, drop-of-length-le}
-use Rattle.text.proofs.Laws.{next, both-true, both-no, chosen}
+use Rattle.text.proofs.Laws.{next, both-true, both-no}
 use Rattle.text.specs.declared.number.Number.{Number}
 use Rattle.text.specs.declared.number.Number.the-variants.{Value, Malformed}
 use Rattle.text.specs.Number.{digits, decimalOf, numberFrom, numberOf}
-use Rattle.text.specs.Class.{within, digit}
+use Rattle.text.specs.Class.{digit}
 use Rattle.text.specs.Contract.{numberRead}
 
 pub digit-range : (b : ℕ) → digit b ≡ true → (48 ≤ b) × (b ≤ 57)
@@ -63,20 +63,3 @@ grow v i d h k = rw (add-one i, pow-suc 10 i) (omega arith)
 
 pub small : (v i : ℕ) → v < 10 ^ i → i ≤ 5 → v < 100000
 small v i h k = let p : 10 ^ i ≤ 10 ^ 5 = pow-le-pow-right (lit< tt) k in omega arith
-
-digits-bound : (s : List ℕ) (v i w : ℕ) → v < 10 ^ i → digits v s ≡ some w → w < 10 ^ (i + length s)
-unfolding digits
-digits-bound [] v i w h e = let q : v ≡ w = cc in rw (add-zero, ← q) h
-digits-bound (b ∷ s) v i w h e =
-    let t = chosen (digit b) (digits (v * 10 + (b - 48)) s) w e in
-    let r = digit-range b (t .0) in
-    let q : i + 1 + length s ≡ i + suc (length s) = omega arith in
-    rw (← q) (digits-bound s (v * 10 + (b - 48)) (i + 1) w (grow v i (b - 48) h (omega arith)) (t .1))
-
--- what a caller has
-pub decimal-bound : (s : List ℕ) (w : ℕ) → decimalOf s ≡ some w → w < 100000
-unfolding decimalOf
-decimal-bound s w e =
-    let t = chosen (within 1 5 (length s)) (digits 0 s) w e in
-    let k = leb-true (length s) 5 (both-true (leb 1 (length s)) (leb (length s) 5) (t .0) .1) in
-    small w (length s) (let d = digits-bound s 0 0 w (lit< tt) (t .1) in rw zero-add at d) k

@@ -1,27 +1,21 @@
 -- The laws of comparing and searching.
 use mathlib.Core.Path.{_≡_, refl, sym, ap, _∙_}
-use mathlib.Core.Bool.{Bool, true, false, cond, _&&_, _||_}
+use mathlib.Core.Bool.{Bool, true, false, cond, _&&_}
 use mathlib.Core.List.{List, [], _∷_, _++_}
-use Prim.Native.Nat.{ℕ, zero, suc, _+_, _-_, _≤_, _<_}
-use native.Mathlib.Nat.{add-zero}
+use mathlib.Core.Option.{Option, none, some, Option·map}
+use Prim.Native.Nat.{ℕ, suc, _+_, _-_, _≤_, _<_}
 use native.Mathlib.Omega.{arith}
 use borrow.Author.Tests.{eq-eqb, ne-eqb, eqb-true}
 use lib.Dec.{eqb}
 use lib.ListN.{length, length-append, take, drop, getD, drop-of-length-le, length-drop}
-use Rattle.text.specs.Lists.{any, has}
-use Rattle.text.proofs.Laws.{next, part-rest, both-true, both-no, false-of, same-test, clash}
-use mathlib.Core.Option.{Option, none, some, Option·map}
+use Rattle.text.specs.Lists.{has}
+use Rattle.text.proofs.Laws.{next, part-rest, both-true, both-no, false-of, clash}
 use Rattle.text.specs.Parts.{Parts, withFirst, partAtPair}
 use Rattle.text.specs.declared.slice.Found.{Found}
 use Rattle.text.specs.declared.slice.Found.the-variants.{At, Nothing}
 use Rattle.text.specs.Slice.{same, startsWith, headIs, findPair}
 use Rattle.text.specs.Contract.{lead, findByte}
 use Rattle.text.proofs.Leads.{found-lead, missing-lead, lead-at, lead-before, lead-none}
-
-pub same-refl : (a : List ℕ) → same a a ≡ true
-unfolding same
-same-refl [] = refl
-same-refl (x ∷ a) = rw (eq-eqb x x refl) (same-refl a)
 
 pub same-true : (a b : List ℕ) → same a b ≡ true → a ≡ b
 unfolding same
@@ -32,18 +26,6 @@ same-true (x ∷ a) (y ∷ b) e =
     let t = both-true (eqb x y) (same a b) e in
     let p = eqb-true x y (t .0) in
     let q = same-true a b (t .1) in cc
-
-pub same-of : (a b : List ℕ) → a ≡ b → same a b ≡ true
-same-of a b e = rw (← e) (same-refl a)
-
-pub same-false : (a b : List ℕ) → same a b ≡ false → a ≡ b → ⊥
-same-false a b n e = let t = same-of a b e in clash cc
-
-pub same-other : (a b : List ℕ) → (a ≡ b → ⊥) → same a b ≡ false
-same-other a b h = false-of (same a b) (λ e. h (same-true a b e))
-
-pub same-swap : (a b : List ℕ) → same a b ≡ same b a
-same-swap a b = same-test (same a b) (same b a) (λ e. same-of b a (sym (same-true a b e))) (λ e. same-of a b (sym (same-true b a e)))
 
 pub same-length : (a b : List ℕ) → (length a ≡ length b → ⊥) → same a b ≡ false
 same-length a b h = false-of (same a b) (λ e. h (ap length (same-true a b e)))
@@ -91,11 +73,6 @@ pub head-is : (d : ℕ) (s : List ℕ) → headIs d s ≡ true → (0 < length s
 unfolding headIs
 head-is d [] e = clash cc
 head-is d (y ∷ s) e = (omega arith, eqb-true y d e)
-
-pub head-of : (d : ℕ) (s : List ℕ) → 0 < length s → getD s 0 0 ≡ d → headIs d s ≡ true
-unfolding headIs
-head-of d [] h e = absurd (omega arith)
-head-of d (y ∷ s) h e = eq-eqb y d e
 
 pair-next : (c d : ℕ) (s : List ℕ) (i : ℕ) → i + 1 < length s → findPair c d i (drop i s) ≡ cond (pairAt c d s i) (At i) (findPair c d (i + 1) (drop (i + 1) s))
 unfolding findPair headIs
@@ -186,36 +163,6 @@ module _ (c d : ℕ) (s : List ℕ) (r : Found) (f : r ≡ findPair c d 0 s) whe
 
   pub pair-missing : r ≡ Nothing → partAtPair c d s ≡ none
   pair-missing e = pair-parts c d 0 s ∙ rw (sym f ∙ e)
-
--- where a pair stands, one is found there or before
-pub pair-there : (c d at : ℕ) (s : List ℕ) (j : ℕ) → j + 1 < length s → getD s j 0 ≡ c → getD s (j + 1) 0 ≡ d → (k : ℕ) × (findPair c d at s ≡ At k) × (k ≤ at + j)
-unfolding findPair
-pair-there c d at [] j h p q = absurd (omega arith)
-pair-there c d at (x ∷ s) zero h p q = (at, rw (eq-eqb x c p, head-of d s (omega arith) q), omega arith)
-pair-there c d at (x ∷ s) (suc j) h p q =
-    let z : suc j + 1 ≡ suc (j + 1) = omega arith in
-    go (eqb x c && headIs d s) (pair-there c d (at + 1) s j (omega arith) p (rw z at q))
-  where
-    go : (t : Bool) → (k : ℕ) × (findPair c d (at + 1) s ≡ At k) × (k ≤ at + 1 + j) → (k : ℕ) × (cond t (At at) (findPair c d (at + 1) s) ≡ At k) × (k ≤ at + suc j)
-    go true r = (at, refl, omega arith)
-    go false r = (r .0, r .1, omega (arith, r .2))
-
--- the pair found is the first
-pub pair-before : (c d : ℕ) (s : List ℕ) (i j : ℕ) → findPair c d 0 s ≡ At i → j < i → getD s j 0 ≡ c → getD s (j + 1) 0 ≡ d → ⊥
-pair-before c d s i j e h p q =
-    let t = pair-at c d s i e in
-    let r = pair-there c d 0 s j (omega (arith, t .0)) p q in
-    let m = r .1 in
-    let k : r .0 ≡ i = cc in
-    omega (arith, r .2)
-
-pub pair-none : (c d at : ℕ) (s : List ℕ) (j : ℕ) → findPair c d at s ≡ Nothing → j + 1 < length s → getD s j 0 ≡ c → getD s (j + 1) 0 ≡ d → ⊥
-pair-none c d at s j e h p q = let m = pair-there c d at s j h p q .1 in clash cc
-
-pub starts-refl : (p s : List ℕ) → startsWith p (p ++ s) ≡ true
-unfolding startsWith
-starts-refl [] s = refl
-starts-refl (x ∷ p) s = rw (eq-eqb x x refl) (starts-refl p s)
 
 pub starts-true : (p s : List ℕ) → startsWith p s ≡ true → p ++ drop (length p) s ≡ s
 unfolding startsWith

@@ -49,10 +49,6 @@ nameByte b = wordByte b || (is "." b || is "-" b)
 unfoldable pub printable : ℕ → Bool
 printable b = within (byte " ") (byte "~") b
 
--- 0x21 to 0x7E
-unfoldable pub visible : ℕ → Bool
-visible b = within (byte "!") (byte "~") b
-
 -- a command's bytes: "from 0x21 to 0x7E, no `:`"
 unfoldable pub commandByte : ℕ → Bool
 commandByte b = within (byte "!") (byte "~") b && not (is ":" b)

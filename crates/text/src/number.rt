@@ -1,5 +1,5 @@
 // Decimal numbers, and a number kept within a limit.
-use super::class::is_digit;
+pub use super::class::is_digit;
 ghost use Prim.Native.Nat.{_≤_, min};
 ghost use mathlib.Core.Path.{_≡_};
 ghost use Rattle.text.specs.Number.{numberOf};
