@@ -86,4 +86,3 @@ short-fields q sc p (f ∷ fs) =
 pub short-entry : (q : Question) (sc : Scope) (fs : List (List ℕ)) → Gives ShortEntry (entryOf q sc fs)
 unfolding entryOf completed
 short-entry q sc fs = gives-then ShortEntry ShortEntry (fieldsFrom q sc first fs) (short-fields q sc first fs) (λ e u. gives-unless ShortEntry (null (e .pairs) || null (e .users)) MissingPart (λ x. gives-unless ShortEntry (twice (e .settings)) OptionTwice (λ y. gives-value ShortEntry u)))
-
