@@ -23,6 +23,7 @@ pub record Outcome : Type 0 where
   pub answer : Answer
   pub buffer : List ℕ
 
+-- this answer, with this buffer
 abbrev pub result : Answer → List ℕ → Outcome
 result a b = record { answer = a; buffer = b }
 
@@ -45,10 +46,12 @@ pub data Beside : Type 0 where
   atLine : ℕ → Beside
   atPlace : ℕ → Beside
 
+-- an answer as 01 tells it
 pub record Told : Type 0 where
   pub number : ℕ
   pub beside : Beside
 
+-- this number, with this beside it
 abbrev pub told : ℕ → Beside → Told
 told n b = record { number = n; beside = b }
 
@@ -56,7 +59,7 @@ told n b = record { number = n; beside = b }
 abbrev pub stringIn : List ℕ → ℕ → ℕ → List ℕ
 stringIn b at e = take (e - at - 1) (drop at b)
 
--- the ids are told by the buffer
+-- the path and the ids are told by the buffer
 unfoldable pub grantIn : List ℕ → Granted → Grant
 grantIn b g = record {
   line = g .line;
@@ -86,6 +89,7 @@ toldOf (CutShort p) b = told 13 (atPlace p)
 toldOf (RefusedLine c p) b = told (numberOf c) (atPlace p)
 toldOf SmallBuffer b = told 17 (atPlace 0)
 
+-- what an outcome tells
 abbrev pub toldBy : Outcome → Told
 toldBy o = toldOf (o .answer) (o .buffer)
 
@@ -93,6 +97,7 @@ toldBy o = toldOf (o .answer) (o .buffer)
 unfoldable pub isDecision : Outcome → Bool
 isDecision o = leb (toldBy o .number) 5
 
+-- the line among what is returned
 abbrev pub lineBeside : Beside → ℕ
 lineBeside (granted g) = g .line
 lineBeside (atLine l) = l

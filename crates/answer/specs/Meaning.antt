@@ -38,6 +38,7 @@ pub record Asked : Type 0 where
   pub age : LastAuthentication
   pub args : List ℕ
 
+-- the question that they ask, if it is a good one
 abbrev pub asks : Asked → Option Question
 asks a = questionOf (a .command) (a .user) (a .groups) (a .host) (a .minute) (a .age) (a .args)
 
@@ -49,10 +50,12 @@ ended s = s ++ 0 ∷ []
 unfoldable pub strings : List ℕ → Options → List ℕ
 strings path o = flatMap ended (path ∷ idOr (o .uid) ∷ idOr (o .euid) ∷ idOr (o .gid) ∷ idOr (o .egid) ∷ [])
 
+-- an effective timeout, which may be unset
 abbrev pub timeoutTold : Option ℤ → Timeout
 timeoutTold none = Unset
 timeoutTold (some t) = Minutes t
 
+-- how many arguments are allowed, if that is set
 abbrev pub countTold : Option Range → Span
 countTold none = Nothing
 countTold (some r) = Between (r .low) (r .high)
@@ -81,7 +84,7 @@ settled b (fault (cut p)) = result (CutShort p) b
 settled b (value none) = result NoEntry b
 settled b (value (some d)) = resolved b (d .line) (d .verdict)
 
--- what the control lines of a table give
+-- what the control lines of a table give: the fold of `lineRead` over them, from the start
 abbrev pub linesGive : Question → List ℕ → Reading (Refusal Cause) (Option Decision)
 linesGive q t = outcome (lineRead q) (λ s. s .decision) start t
 

@@ -49,9 +49,9 @@ fitting-with n b false [] = refl
 fitting-with n b false (s ∷ ss) = elim (decLe n (length s)) [
   | yes h ↦ rw (le-ltb (length s) n h, le-ltb (suc (length s)) (suc n) (omega arith))
   | no h ↦
-    let k : length s < n = omega arith in
-    let z : suc n - (suc (length s) + 1) ≡ n - (length s + 1) = omega arith in
-    rw (lt-ltb (length s) n k, lt-ltb (suc (length s)) (suc n) (omega arith), z)
+      let k : length s < n = omega arith in
+      let z : suc n - (suc (length s) + 1) ≡ n - (length s + 1) = omega arith in
+      rw (lt-ltb (length s) n k, lt-ltb (suc (length s)) (suc n) (omega arith), z)
 ]
 
 ended-cut : (n : ℕ) (after : Bool) (s : List ℕ) → endedLines after (take n s) ≡ fitting n (endedLines after s)
@@ -71,14 +71,14 @@ unfolding placed
 placed-fitting n at k [] = refl
 placed-fitting n at k (s ∷ ss) = elim (decLe n (length s)) [
   | yes h ↦
-    let g : at + n < at + length s + 1 = omega arith in
-    rw (le-ltb (length s) n h, lt-leb (at + length s + 1) (at + n) g)
-    (sym (none-above (at + n) (at + length s + 1) (k + newlines s + 1) (placed (at + length s + 1) (k + newlines s + 1) ss) (omega arith) (ordered (at + length s + 1) (k + newlines s + 1) ss)))
+      let g : at + n < at + length s + 1 = omega arith in
+      rw (le-ltb (length s) n h, lt-leb (at + length s + 1) (at + n) g)
+      (sym (none-above (at + n) (at + length s + 1) (k + newlines s + 1) (placed (at + length s + 1) (k + newlines s + 1) ss) (omega arith) (ordered (at + length s + 1) (k + newlines s + 1) ss)))
   | no h ↦
-    let g : at + length s + 1 ≤ at + n = omega arith in
-    let z : at + length s + 1 + (n - (length s + 1)) ≡ at + n = omega arith in
-    let i = rw z at (placed-fitting (n - (length s + 1)) (at + length s + 1) (k + newlines s + 1) ss) in
-    rw (lt-ltb (length s) n (omega arith), le-leb (at + length s + 1) (at + n) g, i)
+      let g : at + length s + 1 ≤ at + n = omega arith in
+      let z : at + length s + 1 + (n - (length s + 1)) ≡ at + n = omega arith in
+      let i = rw z at (placed-fitting (n - (length s + 1)) (at + length s + 1) (k + newlines s + 1) ss) in
+      rw (lt-ltb (length s) n (omega arith), le-leb (at + length s + 1) (at + n) g, i)
 ]
 
 pub lines-cut : (n : ℕ) (t : List ℕ) → linesOf (take n t) ≡ notAbove n (linesOf t)
@@ -108,12 +108,12 @@ module _ (n : ℕ) where
   not-at-end b k [] o h e = h
   not-at-end b k (l ∷ ls) o h e = elim (decLe (l .end) n) [
     | yes g ↦
-      let d = either-false (eqb (l .end) n) (someEnd ls) e in
-      let m = eqb-false (l .end) n (d .0) in
-      rw (le-leb (l .end) n g) (not-at-end (l .end) (suc (l .number)) ls (o .2) (omega arith) (d .1))
+        let d = either-false (eqb (l .end) n) (someEnd ls) e in
+        let m = eqb-false (l .end) n (d .0) in
+        rw (le-leb (l .end) n g) (not-at-end (l .end) (suc (l .number)) ls (o .2) (omega arith) (d .1))
     | no g ↦
-      let m : n < l .end = omega arith in
-      rw (lt-leb (l .end) n m, none-above n (l .end) (suc (l .number)) ls (omega arith) (o .2)) h
+        let m : n < l .end = omega arith in
+        rw (lt-leb (l .end) n m, none-above n (l .end) (suc (l .number)) ls (omega arith) (o .2)) h
   ]
 
   module _ (t : List ℕ) where

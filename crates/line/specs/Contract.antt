@@ -12,9 +12,9 @@ use Rattle.line.specs.declared.ends.End.the-variants.{At, Cut}
 use Rattle.line.specs.Line.{Line, line, newlines, placed, endedLines}
 
 -- the place that a search tells
-abbrev pub placeOf : Found → Option ℕ
-placeOf (FoundAt i) = some i
-placeOf Nothing = none
+abbrev pub placeFound : Found → Option ℕ
+placeFound (FoundAt i) = some i
+placeFound Nothing = none
 
 -- r is the place of the first byte c from i on, or the end
 pub record Reaches (c : ℕ) (t : List ℕ) (i r : ℕ) : Type 0 where

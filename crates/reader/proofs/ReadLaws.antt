@@ -22,8 +22,8 @@ use Rattle.entry.specs.Entry.{entryOf}
 use Rattle.entry.specs.Field.{Entry}
 use Rattle.entry.specs.Verdict.{Verdict, verdictOf}
 use Rattle.reader.specs.State.{State, decidedAt, scopeOf, withDefinition, withSettings, withEntry}
-use Rattle.reader.specs.Colon.{defined, textAfter, defineName, defineText, defineLine, globalField, globalLine, operatorOf, holds, restIf, rightAfter, operatorAfter, ifLine, colonWord}
-use Rattle.reader.specs.Read.{judgeFor, entryLine, byKind, fieldsRead, scannedRead, lineRead}
+use Rattle.reader.specs.Colon.{defined, textAfter, defineName, defineText, defineLine, globalField, globalLine, operatorOf, operatorHolds, restIf, rightAfter, operatorAfter, ifLine, colonWord}
+use Rattle.reader.specs.Read.{judgeFor, entryLine, byKind, fieldsRead, ifDepth, scannedRead, lineRead}
 use Rattle.line.specs.declared.kind.LineKind.the-variants.{NoField, Colon, Entry as EntryKind}
 use Rattle.line.specs.Scan.{Scanned, scanned, fault as scanFault, fields}
 
@@ -76,7 +76,7 @@ module _ (q : Question) (line : ℕ) (s t : State) where
 
     by-right : (a : List ℕ) (o : Bool) (fs : List (List ℕ)) → rightAfter (scopeOf q s) deeper s a o fs ≡ value t → Change q line s t
     by-right a o [] e = never e
-    by-right a o (f ∷ fs) e = let u = and-then (fieldText (scopeOf q s) f) _ t e in by-rest (holds o a (u .0)) fs (u .2)
+    by-right a o (f ∷ fs) e = let u = and-then (fieldText (scopeOf q s) f) _ t e in by-rest (operatorHolds o a (u .0)) fs (u .2)
 
     by-operator : (a : List ℕ) (fs : List (List ℕ)) → operatorAfter (scopeOf q s) deeper s a fs ≡ value t → Change q line s t
     by-operator a [] e = never e
@@ -126,7 +126,7 @@ line-change q s t l e = by (scanned (l .bytes)) e
   where
     by : (x : Scanned) → scannedRead q (l .number) s x ≡ value t → Change q (l .number) s t
     by (scanFault f) x = never x
-    by (fields fs) x = by-fields q (l .number) s t 4 fs x
+    by (fields fs) x = by-fields q (l .number) s t ifDepth fs x
 
 -- a line leaves the decision as it was, or makes the first one, with its own number
 pub record Keeps (line : ℕ) (s t : State) : Type 0 where

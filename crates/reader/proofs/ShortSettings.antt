@@ -129,4 +129,3 @@ pub short-options : (ss : List Setting) → Each ShortSetting ss → ShortIds (o
 unfolding optionsOf noOptions
 short-options [] h = short-none none none none
 short-options (s ∷ ss) h = short-over (only s) (optionsOf ss) (short-only s (h .0)) (short-options ss (h .1))
-

@@ -29,6 +29,7 @@ abbrev pub defined : Scope → State → Definition → List (List ℕ) → Read
 defined sc s d [] = require (not (tooMany (define d (s .definitions)))) TooManyNames (value (withDefinition d s))
 defined sc s d (f ∷ fs) = andThen (fieldText sc f) (λ t. fault SurplusField)
 
+-- the text behind the name
 abbrev pub textAfter : Scope → State → List ℕ → List (List ℕ) → Reading Cause State
 textAfter sc s n [] = fault MissingPart
 textAfter sc s n (f ∷ fs) = andThen (fieldText sc f) (λ t. andThen (defineText t) (λ u. defined sc s (definition n u) fs))
@@ -51,9 +52,9 @@ unfoldable pub operatorOf : List ℕ → Reading Cause Bool
 operatorOf t = cond (same t (bytes "==")) (value true) (cond (same t (bytes "!=")) (value false) (fault Operator))
 
 -- whether the bytes compare as the operator says
-abbrev pub holds : Bool → List ℕ → List ℕ → Bool
-holds true a b = same a b
-holds false a b = not (same a b)
+abbrev pub operatorHolds : Bool → List ℕ → List ℕ → Bool
+operatorHolds true a b = same a b
+operatorHolds false a b = not (same a b)
 
 -- the rest is not empty; it is read where the comparison holds
 abbrev pub restIf : (List (List ℕ) → Reading Cause State) → State → Bool → List (List ℕ) → Reading Cause State
@@ -61,10 +62,12 @@ restIf deeper s taken [] = fault MissingPart
 restIf deeper s true (f ∷ fs) = deeper (f ∷ fs)
 restIf deeper s false (f ∷ fs) = value s
 
+-- B behind the operator
 abbrev pub rightAfter : Scope → (List (List ℕ) → Reading Cause State) → State → List ℕ → Bool → List (List ℕ) → Reading Cause State
 rightAfter sc deeper s a o [] = fault MissingPart
-rightAfter sc deeper s a o (f ∷ fs) = andThen (fieldText sc f) (λ b. restIf deeper s (holds o a b) fs)
+rightAfter sc deeper s a o (f ∷ fs) = andThen (fieldText sc f) (λ b. restIf deeper s (operatorHolds o a b) fs)
 
+-- the operator behind A
 abbrev pub operatorAfter : Scope → (List (List ℕ) → Reading Cause State) → State → List ℕ → List (List ℕ) → Reading Cause State
 operatorAfter sc deeper s a [] = fault MissingPart
 operatorAfter sc deeper s a (f ∷ fs) = andThen (fieldText sc f) (λ t. andThen (operatorOf t) (λ o. rightAfter sc deeper s a o fs))

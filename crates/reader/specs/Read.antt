@@ -32,12 +32,13 @@ abbrev pub colonLine : Question → Option (List (List ℕ) → Reading Cause St
 colonLine q deeper s [] = value s
 colonLine q deeper s (f ∷ fs) = andThen (fieldText (scopeOf q s) f) (λ w. colonWord (scopeOf q s) deeper s fs w)
 
+-- by the kind of line that the fields make
 abbrev pub byKind : Question → ℕ → Option (List (List ℕ) → Reading Cause State) → State → List (List ℕ) → LineKind → Reading Cause State
 byKind q line deeper s fs NoField = value s
 byKind q line deeper s fs ColonKind = colonLine q deeper s fs
 byKind q line deeper s fs EntryKind = entryLine q line s fs
 
--- the fields of a control line, with the depth left for `:if`: to a depth of 4
+-- the fields of a control line, with the depth left for `:if`
 unfoldable pub fieldsRead : ℕ → Question → ℕ → State → List (List ℕ) → Reading Cause State
 fieldsRead zero q line s fs = byKind q line none s fs (kindOf fs)
 fieldsRead (suc d) q line s fs = byKind q line (some (λ rest. fieldsRead d q line s rest)) s fs (kindOf fs)
@@ -49,9 +50,14 @@ lineCause BadIndent = Indent
 lineCause BadQuote = OpenQuote
 lineCause ManyFields = FieldCount
 
+-- 01: another `:if` "to a depth of 4"
+abbrev pub ifDepth : ℕ
+ifDepth = 4
+
+-- a line that could not be parted, or its fields
 abbrev pub scannedRead : Question → ℕ → State → Scanned → Reading Cause State
 scannedRead q line s (scanFault f) = fault (lineCause f)
-scannedRead q line s (fields fs) = fieldsRead 4 q line s fs
+scannedRead q line s (fields fs) = fieldsRead ifDepth q line s fs
 
 -- a control line: joined length, indents, quotes, number of fields, then fields left to right, then the whole line
 unfoldable pub lineRead : Question → State → Line → Reading Cause State

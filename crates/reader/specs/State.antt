@@ -16,9 +16,11 @@ pub record Decision : Type 0 where
   pub line : ℕ
   pub verdict : Verdict
 
+-- a verdict at the line with this number
 abbrev pub decidedAt : ℕ → Verdict → Decision
 decidedAt line v = record { line = line; verdict = v }
 
+-- the state between two lines
 pub record State : Type 0 where
   pub definitions : List Definition
   pub options : Options
