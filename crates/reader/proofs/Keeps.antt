@@ -9,7 +9,7 @@ use Rattle.text.specs.Bytes.{bytes}
 use Rattle.text.specs.Lists.{firstOf, null}
 use Rattle.text.specs.Slice.{same}
 use Rattle.fault.specs.declared.Cause.{Cause}
-use Rattle.fault.specs.declared.Cause.the-variants.{ColonWord, EntryTooEarly, MissingPart, OptionTwice, TooManyNames}
+use Rattle.fault.specs.declared.Cause.the-variants.{ColonWord, EntryTooEarly, MissingPart, OptionTwice}
 use Rattle.fault.specs.Fault.{Reading, fault, value, andThen, readAll, unless}
 use Rattle.line.specs.declared.kind.LineKind.{LineKind}
 use Rattle.line.specs.declared.kind.LineKind.the-variants.{NoField, Colon, Entry}
@@ -17,13 +17,14 @@ use Rattle.line.specs.Line.{Line}
 use Rattle.line.specs.Kind.{kindOf}
 use Rattle.line.specs.Scan.{Scanned, scanned, fault as scanFault, fields}
 use Rattle.question.specs.Question.{Question}
-use Rattle.variables.specs.Scope.{Scope, Definition, definition, define, tooMany}
+use Rattle.variables.specs.Scope.{Scope, Definition, definition}
+use Rattle.variables.specs.Define.{defineName, defineText, defineIn}
 use Rattle.variables.specs.Substitute.{fieldText}
 use Rattle.options.specs.Read.{Setting, twice}
 use Rattle.entry.specs.Entry.{entryOf}
 use Rattle.entry.specs.Verdict.{Verdict, verdictOf}
 use Rattle.reader.specs.State.{State, Decision, decisionOf, scopeOf, withDefinition, withSettings, withEntry}
-use Rattle.reader.specs.Colon.{defined, textAfter, defineName, defineText, defineLine, globalField, globalLine, operatorOf, holds, restIf, rightAfter, operatorAfter, ifLine, colonWord}
+use Rattle.reader.specs.Colon.{defined, textAfter, defineLine, globalField, globalLine, operatorOf, holds, restIf, rightAfter, operatorAfter, ifLine, colonWord}
 use Rattle.reader.specs.Read.{entryLine, colonLine, byKind, fieldsRead, scannedRead, lineRead}
 
 -- what a line does to the decision
@@ -60,7 +61,7 @@ module _ (line end : ℕ) where
   -- ---- `:define`
   by-defined : (sc : Scope) (s t : State) (d : Definition) (fs : List (List ℕ)) → defined sc s d fs ≡ value t → Keeps line end s t
   unfolding withDefinition
-  by-defined sc s t d [] e = let u = un-less (tooMany (define d (s .definitions))) TooManyNames (value (withDefinition d s)) t e in unchanged s t (ap (λ x. x .decision) (sym (same-value (u .1))))
+  by-defined sc s t d [] e = let u = and-then (defineIn d (s .definitions)) _ t e in unchanged s t (ap (λ x. x .decision) (sym (same-value (u .2))))
   by-defined sc s t d (f ∷ fs) e = let u = and-then (fieldText sc f) _ t e in absurd (never (u .2))
 
   by-text : (sc : Scope) (s t : State) (n : List ℕ) (fs : List (List ℕ)) → textAfter sc s n fs ≡ value t → Keeps line end s t

@@ -3,29 +3,21 @@ use Prim.Native.Nat.{ℕ}
 use mathlib.Core.Bool.{Bool, true, false, not, cond, _||_}
 use mathlib.Core.List.{List, [], _∷_}
 use mathlib.Core.Option.{Option, none, some}
-use lib.Dec.{ltb}
-use lib.ListN.{length}
 use Rattle.text.specs.Bytes.{bytes}
 use Rattle.text.specs.Lists.{null}
 use Rattle.text.specs.Slice.{same}
 use Rattle.fault.specs.Fault.{Reading, fault, value, andThen, readAll, needed, unless}
 use Rattle.fault.specs.declared.Cause.{Cause}
-use Rattle.fault.specs.declared.Cause.the-variants.{NameLength, TextLength, IfDepth, OptionName, ColonWord, DefineName, Operator, SurplusField, MissingPart, OptionTwice, TooManyNames}
-use Rattle.variables.specs.Scope.{Scope, Definition, definition, define, isName, builtIn, tooMany}
+use Rattle.fault.specs.declared.Cause.the-variants.{IfDepth, OptionName, ColonWord, Operator, SurplusField, MissingPart, OptionTwice}
+use Rattle.variables.specs.Scope.{Scope, Definition, definition}
+use Rattle.variables.specs.Define.{defineName, defineText, defineIn}
 use Rattle.variables.specs.Substitute.{fieldText}
 use Rattle.options.specs.Read.{Setting, optionOf, twice}
 use Rattle.reader.specs.State.{State, withDefinition, withSettings}
 
--- a name's size, then its form; built-in names can't be redefined
-unfoldable pub defineName : List ℕ → Reading Cause (List ℕ)
-defineName n = unless (ltb 64 (length n)) NameLength (unless (not (isName n) || builtIn n) DefineName (value n))
-
-unfoldable pub defineText : List ℕ → Reading Cause (List ℕ)
-defineText t = unless (ltb 256 (length t)) TextLength (value t)
-
--- nothing stands behind the text; last of all, more than 64 names
+-- nothing stands behind the text; last of all, too many names
 abbrev pub defined : Scope → State → Definition → List (List ℕ) → Reading Cause State
-defined sc s d [] = unless (tooMany (define d (s .definitions))) TooManyNames (value (withDefinition d s))
+defined sc s d [] = andThen (defineIn d (s .definitions)) (λ ds. value (withDefinition d s))
 defined sc s d (f ∷ fs) = andThen (fieldText sc f) (λ t. fault SurplusField)
 
 abbrev pub textAfter : Scope → State → List ℕ → List (List ℕ) → Reading Cause State
