@@ -15,14 +15,15 @@ use Rattle.line.specs.declared.kind.LineKind.{LineKind}
 use Rattle.line.specs.Line.{Line}
 use Rattle.line.specs.Kind.{kindOf}
 use Rattle.question.specs.Question.{Question}
-use Rattle.variables.specs.Scope.{Definition, definition, define, tooMany}
+use Rattle.variables.specs.Scope.{Definition, definition}
+use Rattle.variables.specs.Define.{defineName, defineText, defineIn}
 use Rattle.variables.specs.Substitute.{fieldText}
 use Rattle.options.specs.Read.{Setting, twice}
 use Rattle.entry.specs.Entry.{entryOf}
 use Rattle.entry.specs.Field.{Entry}
 use Rattle.entry.specs.Verdict.{Verdict, verdictOf}
 use Rattle.reader.specs.State.{State, decidedAt, scopeOf, withDefinition, withSettings, withEntry}
-use Rattle.reader.specs.Colon.{defined, textAfter, defineName, defineText, defineLine, globalField, globalLine, operatorOf, operatorHolds, restIf, rightAfter, operatorAfter, ifLine, colonWord}
+use Rattle.reader.specs.Colon.{defined, textAfter, defineLine, globalField, globalLine, operatorOf, operatorHolds, restIf, rightAfter, operatorAfter, ifLine, colonWord}
 use Rattle.reader.specs.Read.{judgeFor, entryLine, byKind, fieldsRead, ifDepth, scannedRead, lineRead}
 use Rattle.line.specs.declared.kind.LineKind.the-variants.{NoField, Colon, Entry as EntryKind}
 use Rattle.line.specs.Scan.{Scanned, scanned, fault as scanFault, fields}
@@ -37,7 +38,7 @@ pub data Change (q : Question) (line : ℕ) (s t : State) : Type 0 where
 module _ (q : Question) (line : ℕ) (s t : State) where
   -- ---- `:define`
   by-defined : (d : Definition) (fs : List (List ℕ)) → defined (scopeOf q s) s d fs ≡ value t → Change q line s t
-  by-defined d [] e = defines d (same-value (required (not (tooMany (define d (s .definitions)))) TooManyNames _ t e .1))
+  by-defined d [] e = defines d (same-value (and-then (defineIn d (s .definitions)) _ t e .2))
   by-defined d (f ∷ fs) e = never (and-then (fieldText (scopeOf q s) f) _ t e .2)
 
   by-text : (n : List ℕ) (fs : List (List ℕ)) → textAfter (scopeOf q s) s n fs ≡ value t → Change q line s t

@@ -1,32 +1,23 @@
 -- Lines that begin with a colon: `:define`, `:global`, `:if` (01, "Lines that begin with a colon").
 use Prim.Native.Nat.{ℕ}
-use mathlib.Core.Bool.{Bool, true, false, not, cond, _&&_, _||_}
+use mathlib.Core.Bool.{Bool, true, false, not, cond, _||_}
 use mathlib.Core.List.{List, [], _∷_}
 use mathlib.Core.Option.{Option, none, some}
-use lib.Dec.{leb}
-use lib.ListN.{length}
 use Rattle.text.specs.Bytes.{bytes}
 use Rattle.text.specs.Lists.{null}
 use Rattle.text.specs.Slice.{same}
 use Rattle.fault.specs.Fault.{Reading, fault, value, andThen, readAll, needed, require}
 use Rattle.fault.specs.declared.Cause.{Cause}
-use Rattle.fault.specs.declared.Cause.the-variants.{NameLength, TextLength, IfDepth, OptionName, ColonWord, DefineName, Operator, SurplusField, MissingPart, OptionTwice, TooManyNames}
-use Rattle.variables.specs.Scope.{Scope, Definition, definition, define, isName, builtIn, tooMany}
+use Rattle.fault.specs.declared.Cause.the-variants.{IfDepth, OptionName, ColonWord, Operator, SurplusField, MissingPart, OptionTwice}
+use Rattle.variables.specs.Scope.{Scope, Definition, definition}
+use Rattle.variables.specs.Define.{defineName, defineText, defineIn}
 use Rattle.variables.specs.Substitute.{fieldText}
 use Rattle.options.specs.Read.{Setting, optionOf, twice}
 use Rattle.reader.specs.State.{State, withDefinition, withSettings}
 
--- a name's size, then its form; built-in names can't be redefined
-unfoldable pub defineName : List ℕ → Reading Cause (List ℕ)
-defineName n = require (leb (length n) 64) NameLength (require (isName n && not (builtIn n)) DefineName (value n))
-
--- a text's size
-unfoldable pub defineText : List ℕ → Reading Cause (List ℕ)
-defineText t = require (leb (length t) 256) TextLength (value t)
-
--- nothing stands behind the text; last of all, more than 64 names
+-- nothing stands behind the text; last of all, too many names
 abbrev pub defined : Scope → State → Definition → List (List ℕ) → Reading Cause State
-defined sc s d [] = require (not (tooMany (define d (s .definitions)))) TooManyNames (value (withDefinition d s))
+defined sc s d [] = andThen (defineIn d (s .definitions)) (λ ds. value (withDefinition d s))
 defined sc s d (f ∷ fs) = andThen (fieldText sc f) (λ t. fault SurplusField)
 
 -- the text behind the name
