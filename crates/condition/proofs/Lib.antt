@@ -1,1 +1,3 @@
 pub mod RightmostLaws
+pub mod PrefixLaws
+pub mod JudgeLaws

@@ -8,14 +8,14 @@ use question::strings::string_end;
 use times::item::ItemAnswer;
 use times::item::item_answer;
 ghost use mathlib.Core.Path.{_≡_};
-ghost use mathlib.Core.Bool.{false};
+ghost use mathlib.Core.Bool.{_&&_};
 ghost use mathlib.Core.Option.{Option·map};
 ghost use Rattle.text.specs.Lists.{any};
 ghost use Rattle.question.specs.Strings.{stringsIn};
 ghost use Rattle.pattern.specs.Match.{matches};
 ghost use Rattle.pattern.specs.Alternative.{alternativeOf};
-ghost use Rattle.condition.specs.Condition.{judgeOf};
-ghost use Rattle.condition.specs.Contract.{sortIn, judgementIn, judgementOf, judgeIf, nameApplies, appliesBy, namesJudged, timeJudged};
+ghost use Rattle.times.specs.Item.{itemOf, itemMatches};
+ghost use Rattle.condition.specs.Contract.{sortIn, judgementIn, judgementOf, judgeBy, nameApplies, appliesBy};
 
 // What is found of an alternative.
 pub enum Judgement {
@@ -52,10 +52,13 @@ fn some_group_matches(pattern: &[u8], groups: &[u8]) -> bool
     false
 }
 
-// Whether the user, or some group, matches.
-fn name_matches(asks: Asks, pattern: &[u8], user: &[u8], groups: &[u8]) -> bool
-    ensures { λ r. ⌜ r ≡ nameApplies (sortIn asks) (now (pattern .entry)) (now (user .entry)) (stringsIn (now (groups .entry))) ⌝ }
+// Whether the user, or some group, matches; where nothing is judged none does.
+fn name_matches(asks: Asks, judging: bool, pattern: &[u8], user: &[u8], groups: &[u8]) -> bool
+    ensures { λ r. ⌜ r ≡ nameApplies judging (sortIn asks) (now (user .entry)) (stringsIn (now (groups .entry))) (now (pattern .entry)) ⌝ }
 {
+    if !judging {
+        return false;
+    }
     match asks {
         Asks::User => matches_expansion(pattern, user),
         Asks::Group => some_group_matches(pattern, groups),
@@ -64,33 +67,7 @@ fn name_matches(asks: Asks, pattern: &[u8], user: &[u8], groups: &[u8]) -> bool
 }
 
 // A user or group alternative: the name, and the host where there is one.
-fn judge_name(asks: Asks, e: &[u8], user: &[u8], groups: &[u8], host: &[u8]) -> Judgement
-    ensures { λ r. ⌜ r ≡ judgementOf (Option·map (appliesBy (sortIn asks) (now (user .entry)) (stringsIn (now (groups .entry))) (now (host .entry))) (alternativeOf (now (e .entry)))) ⌝ }
-{
-    match part(e) {
-        Parted::Malformed => Judgement::Malformed,
-        Parted::Name => of_test(name_matches(asks, e, user, groups)),
-        Parted::NameAtHost(at) => {
-            if !name_matches(asks, &e[..at], user, groups) {
-                return Judgement::Misses;
-            }
-            of_test(matches_expansion(&e[at + 1..], host))
-        }
-    }
-}
-
-// The same where nothing is judged.
-fn check_name(e: &[u8]) -> Judgement
-    ensures { λ r. ⌜ r ≡ judgementOf (Option·map (λ a. false) (alternativeOf (now (e .entry)))) ⌝ }
-{
-    match part(e) {
-        Parted::Malformed => Judgement::Malformed,
-        Parted::Name => Judgement::Misses,
-        Parted::NameAtHost(_) => Judgement::Misses,
-    }
-}
-
-fn judge_names(
+fn judge_name(
     asks: Asks,
     judging: bool,
     e: &[u8],
@@ -98,17 +75,23 @@ fn judge_names(
     groups: &[u8],
     host: &[u8],
 ) -> Judgement
-    ensures { λ r. ⌜ r ≡ judgementOf (namesJudged judging (sortIn asks) (now (user .entry)) (stringsIn (now (groups .entry))) (now (host .entry)) (now (e .entry))) ⌝ }
+    ensures { λ r. ⌜ r ≡ judgementOf (Option·map (appliesBy judging (sortIn asks) (now (user .entry)) (stringsIn (now (groups .entry))) (now (host .entry))) (alternativeOf (now (e .entry)))) ⌝ }
 {
-    if judging {
-        return judge_name(asks, e, user, groups, host);
+    match part(e) {
+        Parted::Malformed => Judgement::Malformed,
+        Parted::Name => of_test(name_matches(asks, judging, e, user, groups)),
+        Parted::NameAtHost(at) => {
+            if !name_matches(asks, judging, &e[..at], user, groups) {
+                return Judgement::Misses;
+            }
+            of_test(matches_expansion(&e[at + 1..], host))
+        }
     }
-    check_name(e)
 }
 
 // A time item.
 fn judge_time(judging: bool, e: &[u8], minute: WeekMinute) -> Judgement
-    ensures { λ r. ⌜ r ≡ judgementOf (timeJudged judging (minute .0) (now (e .entry))) ⌝ }
+    ensures { λ r. ⌜ r ≡ judgementOf (Option·map (λ i. judging && itemMatches i (minute .0)) (itemOf (now (e .entry)))) ⌝ }
 {
     match item_answer(e, minute) {
         ItemAnswer::Malformed => Judgement::Malformed,
@@ -117,7 +100,7 @@ fn judge_time(judging: bool, e: &[u8], minute: WeekMinute) -> Judgement
     }
 }
 
-// One brace-free expansion; where nothing is judged none applies.
+// One brace-free expansion; where nothing is judged only its form is looked at, and it does not apply.
 pub fn judge(
     asks: Asks,
     judging: bool,
@@ -127,11 +110,11 @@ pub fn judge(
     host: &[u8],
     minute: WeekMinute,
 ) -> Judgement
-    ensures { λ r. ⌜ r ≡ judgementOf (judgeIf judging (judgeOf (now (user .entry)) (stringsIn (now (groups .entry))) (now (host .entry)) (minute .0)) (sortIn asks) (now (e .entry))) ⌝ }
+    ensures { λ r. ⌜ r ≡ judgementOf (judgeBy judging (now (user .entry)) (now (groups .entry)) (now (host .entry)) (minute .0) (sortIn asks) (now (e .entry))) ⌝ }
 {
     match asks {
-        Asks::User => judge_names(Asks::User, judging, e, user, groups, host),
-        Asks::Group => judge_names(Asks::Group, judging, e, user, groups, host),
+        Asks::User => judge_name(Asks::User, judging, e, user, groups, host),
+        Asks::Group => judge_name(Asks::Group, judging, e, user, groups, host),
         Asks::Time => judge_time(judging, e, minute),
     }
 }

@@ -1,3 +1,6 @@
+use Rattle.condition.proofs.JudgeLaws.{item-malformed, item-misses, item-matches}
+use mathlib.Core.Path.{sym, _∙_}
+use native.Mathlib.Omega.{arith}
 use borrow.Author.Needs.{needs}
 use Rattle.condition.proofs.judge.judge_time.Statement.{statement}
 use Rattle.condition.proofs.judge.judge_time.Tie as tie
@@ -6,37 +9,29 @@ use Rattle.condition.proofs.judge.judge_time.Lts as lts
 use Rattle.condition.proofs.judge.of_test.Reads as of-test-reads
 use Rattle.times.proofs.item.item_answer.Reads as item-answer-reads
 
--- src/judge.rt:113:11
 item-answer-requires : tie.Need-item-answer-requires
 item-answer-requires c κs = search needs
 
--- src/judge.rt:114:34
 enum-told : tie.Need-enum-told
 enum-told c = search needs
 
--- src/judge.rt:115:31
 enum-told-2 : tie.Need-enum-told-2
 enum-told-2 c = search needs
 
--- src/judge.rt:116:32
 enum-told-3 : tie.Need-enum-told-3
 enum-told-3 c = search needs
 
--- src/judge.rt:116:32
 of-test-requires : tie.Need-of-test-requires
 of-test-requires c κs = search needs
 
--- src/judge.rt:110:1
 returns : tie.Need-returns
-returns c = ?
+returns c = item-malformed (c .before .before .before .before .args .judging) _ _ (sym (c .enum-told .given .1) ∙ c .before .before .item-answer .ensures)
 
--- src/judge.rt:110:1
 returns-2 : tie.Need-returns-2
-returns-2 c = ?
+returns-2 c = item-misses (c .before .before .before .before .args .judging) _ _ (sym (c .enum-told2 .given .1) ∙ c .before .before .item-answer .ensures)
 
--- src/judge.rt:110:1
 returns-3 : tie.Need-returns-3
-returns-3 c = ?
+returns-3 c = c .of-test .ensures ∙ item-matches (c .before .before .before .before .before .args .judging) _ _ (sym (c .before .enum-told3 .given .1) ∙ c .before .before .before .item-answer .ensures)
 
 pub judge-time-spec : {M : Type 1} → statement M
 judge-time-spec =

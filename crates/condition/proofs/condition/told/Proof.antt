@@ -1,0 +1,55 @@
+use borrow.Author.Needs.{needs}
+use Rattle.condition.proofs.condition.told.Statement.{statement}
+use Rattle.condition.proofs.condition.told.Tie as tie
+use Rattle.condition.proofs.condition.told.Reads as reads
+use Rattle.condition.proofs.condition.told.Lts as lts
+
+-- src/condition.rt:222:22
+enum-known-added : tie.Need-enum-known-added
+enum-known-added c = search needs
+
+-- src/condition.rt:223:21
+enum-known-added-2 : tie.Need-enum-known-added-2
+enum-known-added-2 c = search needs
+
+-- src/condition.rt:224:27
+enum-told : tie.Need-enum-told
+enum-told c = search needs
+
+-- src/condition.rt:225:28
+enum-told-2 : tie.Need-enum-told-2
+enum-told-2 c = search needs
+
+-- src/condition.rt:226:27
+enum-told-3 : tie.Need-enum-told-3
+enum-told-3 c = search needs
+
+-- src/condition.rt:218:1
+returns : tie.Need-returns
+returns c = ?
+
+-- src/condition.rt:218:1
+returns-2 : tie.Need-returns-2
+returns-2 c = ?
+
+-- src/condition.rt:218:1
+returns-3 : tie.Need-returns-3
+returns-3 c = ?
+
+-- src/condition.rt:218:1
+returns-4 : tie.Need-returns-4
+returns-4 c = ?
+
+pub told-spec : {M : Type 1} → statement M
+told-spec =
+    tie.close
+    (tie.spec
+    enum-known-added
+    enum-known-added-2
+    enum-told
+    enum-told-2
+    enum-told-3
+    returns
+    returns-2
+    returns-3
+    returns-4)
