@@ -1,3 +1,6 @@
 pub mod RightmostLaws
 pub mod PrefixLaws
 pub mod JudgeLaws
+pub mod AddedLaws
+pub mod SingleLaws
+pub mod ReadLaws

@@ -116,6 +116,7 @@ fn add_one(
 
 // All expansions of a pattern that has so many.
 fn add_all(
+    kind: Kind,
     asks: Asks,
     negated: bool,
     judging: bool,
@@ -127,10 +128,9 @@ fn add_all(
     minute: WeekMinute,
     kept: Rightmost,
 ) -> Added
-    requires { ⌜ (length (now p) ≤ 1024) × (number ≡ length (expansionsOf (kindFor (sortIn asks)) (now p))) ⌝ }
-    ensures { λ r. ⌜ r ≡ addedBy kept (readAll (alternativeRead (judgeBy judging (now (user .entry)) (now (groups .entry)) (now (host .entry)) (minute .0)) negated (sortIn asks)) (expansionsOf (kindFor (sortIn asks)) (now (p .entry)))) ⌝ }
+    requires { ⌜ (length (now p) ≤ 1024) × (number ≡ length (expansionsOf kind (now p))) ⌝ }
+    ensures { λ r. ⌜ r ≡ addedBy kept (readAll (alternativeRead (judgeBy judging (now (user .entry)) (now (groups .entry)) (now (host .entry)) (minute .0)) negated (sortIn asks)) (expansionsOf kind (now (p .entry)))) ⌝ }
 {
-    let kind = kind_for(asks);
     let mut out = [0u8; Pattern::BYTES];
     let mut r = kept;
     let mut k = 0;
@@ -180,7 +180,8 @@ fn add_alternatives(
     requires { ⌜ length (now p) ≤ 1024 ⌝ }
     ensures { λ r. ⌜ r ≡ addedBy kept (alternativesOf (judgeBy judging (now (user .entry)) (now (groups .entry)) (now (host .entry)) (minute .0)) negated (sortIn asks) (now (p .entry))) ⌝ }
 {
-    match read_pattern(kind_for(asks), p) {
+    let kind = kind_for(asks);
+    match read_pattern(kind, p) {
         Shape::Malformed => Added::Fault(Cause::Pattern),
         Shape::Read(size) => {
             if !size.fits() {
@@ -190,6 +191,7 @@ fn add_alternatives(
                 return add_one(asks, negated, judging, p, user, groups, host, minute, kept);
             }
             add_all(
+                kind,
                 asks,
                 negated,
                 judging,

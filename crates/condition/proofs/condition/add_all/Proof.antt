@@ -1,84 +1,76 @@
+use lib.ListN.{length, drop, length-replicate}
+use Rattle.condition.proofs.AddedLaws.{each-fault, each-kept, each-end}
+use Rattle.condition.specs.Contract.{sortIn, judgeBy, addedBy}
+use Rattle.condition.specs.Condition.{alternativeRead}
+use Rattle.pattern.proofs.Wholes.{never-full}
+use Rattle.pattern.specs.Whole.{expansionsOf}
+use Rattle.fault.specs.Fault.{readAll}
+use Rattle.text.proofs.Buffers.{wrote-done, wrote-length}
+use lib.Seq.{length-take-le}
+use Prim.Native.Nat.{ℕ, _-_}
+use mathlib.Core.Path.{_≡_, refl, sym, _∙_}
+use borrow.Author.Needs.{needs}
+use native.Mathlib.Omega.{arith}
 use Rattle.condition.proofs.condition.add_all.Statement.{statement}
 use Rattle.condition.proofs.condition.add_all.Tie as tie
 use Rattle.condition.proofs.condition.add_all.Reads as reads
 use Rattle.condition.proofs.condition.add_all.Lts as lts
 use Rattle.condition.proofs.condition.add_one.Reads as add-one-reads
-use Rattle.condition.proofs.condition.kind_for.Reads as kind-for-reads
 use Rattle.pattern.proofs.expand.expansion.Reads as expansion-reads
 
 abbrev Inv-loop : tie.InvT-loop
-Inv-loop asks negated judging p number user groups host minute kind out₀ r₀ k₀ out r k = ?
+Inv-loop kind asks negated judging p number user groups host minute out₀ r₀ k₀ out r k = (length out ≡ 1024) × (addedBy r (readAll (alternativeRead (judgeBy judging user groups host (minute .0)) negated (sortIn asks)) (drop k (expansionsOf kind p))) ≡ addedBy r₀ (readAll (alternativeRead (judgeBy judging user groups host (minute .0)) negated (sortIn asks)) (expansionsOf kind p)))
 
 abbrev μ-loop : tie.MeasureT-loop
-μ-loop asks negated judging p number user groups host minute kind out₀ r₀ k₀ out r k = ?
+μ-loop kind asks negated judging p number user groups host minute out₀ r₀ k₀ out r k = number - k
 
--- src/condition.rt:133:9
-kind-for-requires : tie.Need-kind-for-requires Inv-loop μ-loop
-kind-for-requires c κs = ?
-
--- src/condition.rt:137:5
 loop-holds : tie.Need-loop-holds Inv-loop μ-loop
-loop-holds c = ?
+loop-holds c = (length-replicate {A = ℕ} 1024 0, refl)
 
--- src/condition.rt:138:37
 slice-aggregate-expansion : tie.Need-slice-aggregate-expansion Inv-loop μ-loop
-slice-aggregate-expansion c = ?
+slice-aggregate-expansion c = sym (c .before .before .loop .inv .0)
 
--- src/condition.rt:138:15
 expansion-requires : tie.Need-expansion-requires Inv-loop μ-loop
-expansion-requires c κs = ?
+expansion-requires c κs = search needs
 
--- src/condition.rt:139:26
 enum-known-n : tie.Need-enum-known-n Inv-loop μ-loop
-enum-known-n c = ?
+enum-known-n c = search needs
 
--- src/condition.rt:144:21
 array-share-prefix-out : tie.Need-array-share-prefix-out Inv-loop μ-loop
-array-share-prefix-out c = ?
+array-share-prefix-out c = let w = c .before .before .before .before .expansion .ensures in omega (arith, wrote-done w (c .before .n .given .1) .0, wrote-length w)
 
--- src/condition.rt:144:21
 slice-aggregate-add-one : tie.Need-slice-aggregate-add-one Inv-loop μ-loop
-slice-aggregate-add-one c = ?
+slice-aggregate-add-one c = let w = c .before .before .before .before .before .expansion .ensures in let d = wrote-done w (c .before .before .n .given .1) in sym (length-take-le _ _ (omega (arith, d .0, wrote-length w)))
 
--- src/condition.rt:140:23
 add-one-requires : tie.Need-add-one-requires Inv-loop μ-loop
-add-one-requires c κs = ?
+add-one-requires c κs = search needs
 
--- src/condition.rt:151:33
 enum-known-next : tie.Need-enum-known-next Inv-loop μ-loop
-enum-known-next c = ?
+enum-known-next c = search needs
 
--- src/condition.rt:153:25
 add-k : tie.Need-add-k Inv-loop μ-loop
-add-k c = ?
+add-k c = search needs
 
--- src/condition.rt:137:5
 loop-less : tie.Need-loop-less Inv-loop μ-loop
-loop-less c = ?
+loop-less c = search needs
 
--- src/condition.rt:137:5
 loop-again : tie.Need-loop-again Inv-loop μ-loop
-loop-again c = ?
+loop-again c = (wrote-length (c .before .before .before .before .before .before .before .before .before .expansion .ensures) ∙ c .before .before .before .before .before .before .before .before .before .before .before .before .loop .inv .0, each-kept _ _ _ _ (c .before .before .before .before .before .before .before .before .before .before .before .before .loop .k) (omega (arith, c .before .before .before .before .before .before .before .before .before .before .before .before .before .before .before .before .before .pre .1)) (c .before .before .before .before .before .before .before .before .before .expansion .ensures) (c .before .before .before .before .before .before .n .given .1) _ (sym (c .before .next .given .1) ∙ c .before .before .before .add-one .ensures) ∙ c .before .before .before .before .before .before .before .before .before .before .before .before .loop .inv .1)
 
--- src/condition.rt:155:34
 enum-known-cause : tie.Need-enum-known-cause Inv-loop μ-loop
-enum-known-cause c = ?
+enum-known-cause c = search needs
 
--- src/condition.rt:156:25
 returns : tie.Need-returns Inv-loop μ-loop
-returns c = ?
+returns c = each-fault _ _ _ _ (c .before .before .before .before .before .before .before .before .before .before .before .before .loop .k) (omega (arith, c .before .before .before .before .before .before .before .before .before .before .before .before .before .before .before .before .before .pre .1)) (c .before .before .before .before .before .before .before .before .before .expansion .ensures) (c .before .before .before .before .before .before .n .given .1) _ (sym (c .before .cause .given .1) ∙ c .before .before .before .add-one .ensures) ∙ c .before .before .before .before .before .before .before .before .before .before .before .before .loop .inv .1
 
--- src/condition.rt:161:37
 enum-told : tie.Need-enum-told Inv-loop μ-loop
-enum-told c = ?
+enum-told c = search needs
 
--- src/condition.rt:161:17
 returns-2 : tie.Need-returns-2 Inv-loop μ-loop
-returns-2 c = ?
+returns-2 c = absurd (never-full _ _ _ (c .before .before .before .expansion .ensures) (omega (arith, c .before .before .before .before .before .before .before .before .before .before .before .pre .0)) (c .enum-told .given .1))
 
--- src/condition.rt:118:1
 returns-3 : tie.Need-returns-3 Inv-loop μ-loop
-returns-3 c = ?
+returns-3 c = each-end _ _ _ _ (c .before .loop .k) (omega (arith, c .before .before .before .before .before .before .pre .1, c .loop-test .left)) ∙ c .before .loop .inv .1
 
 pub add-all-spec : {M : Type 1} → statement M
 add-all-spec =
@@ -86,7 +78,6 @@ add-all-spec =
     (tie.spec
     Inv-loop
     μ-loop
-    kind-for-requires
     loop-holds
     slice-aggregate-expansion
     expansion-requires

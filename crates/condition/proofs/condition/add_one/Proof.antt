@@ -1,3 +1,8 @@
+use Rattle.condition.proofs.AddedLaws.{one-told}
+use Rattle.condition.specs.declared.judge.Judgement.the-variants.{Malformed, Applies, Misses}
+use Rattle.condition.specs.declared.condition.Added.the-variants.{Fault, Kept}
+use mathlib.Core.Path.{sym, ap, _∙_}
+use native.Mathlib.Omega.{arith}
 use borrow.Author.Needs.{needs}
 use Rattle.condition.proofs.condition.add_one.Statement.{statement}
 use Rattle.condition.proofs.condition.add_one.Tie as tie
@@ -7,45 +12,35 @@ use Rattle.condition.proofs.condition.cause_for.Reads as cause-for-read
 use Rattle.condition.proofs.judge.judge.Reads as judge-reads
 use Rattle.condition.proofs.rightmost.Rightmost.add.Reads as add-reads
 
--- src/condition.rt:110:11
 judge-requires : tie.Need-judge-requires
 judge-requires c κs = search needs
 
--- src/condition.rt:111:46
 enum-told : tie.Need-enum-told
 enum-told c = search needs
 
--- src/condition.rt:111:46
 cause-for-requires : tie.Need-cause-for-requires
 cause-for-requires c κs = search needs
 
--- src/condition.rt:112:43
 enum-told-2 : tie.Need-enum-told-2
 enum-told-2 c = search needs
 
--- src/condition.rt:112:43
 add-requires : tie.Need-add-requires
 add-requires c κs = search needs
 
--- src/condition.rt:113:42
 enum-told-3 : tie.Need-enum-told-3
 enum-told-3 c = search needs
 
--- src/condition.rt:113:42
 add-requires-2 : tie.Need-add-requires-2
 add-requires-2 c κs = search needs
 
--- src/condition.rt:97:1
 returns : tie.Need-returns
-returns c = ?
+returns c = ap Fault (c .cause-for .ensures) ∙ one-told _ _ _ _ _ Malformed (sym (c .before .enum-told .given .1) ∙ c .before .before .before .judge .ensures)
 
--- src/condition.rt:97:1
 returns-2 : tie.Need-returns-2
-returns-2 c = ?
+returns-2 c = ap Kept (c .add .ensures) ∙ one-told _ _ _ _ _ Applies (sym (c .before .enum-told2 .given .1) ∙ c .before .before .before .judge .ensures)
 
--- src/condition.rt:97:1
 returns-3 : tie.Need-returns-3
-returns-3 c = ?
+returns-3 c = ap Kept (c .add2 .ensures) ∙ one-told _ _ _ _ _ Misses (sym (c .before .enum-told3 .given .1) ∙ c .before .before .before .judge .ensures)
 
 pub add-one-spec : {M : Type 1} → statement M
 add-one-spec =
