@@ -39,16 +39,17 @@ prefixed t =
     (cond (startsWith (bytes "time~") t) (behindPrefix time true (drop 5 t))
     (behindPrefix user false t)))
 
--- "each with an optional `!` in front"
-unfoldable pub unnegated : List ℕ → List ℕ
-unnegated t = cond (headIs (byte "!") t) (drop 1 t) t
+-- says of a brace-free expansion whether it applies to the question; none where it has no good form
+abbrev pub Judge : Type 0
+Judge = Sort → List ℕ → Option Bool
 
--- what a brace-free expansion says of the caller; none where it has no good form
-unfoldable pub judgeOf : (user : List ℕ) (groups : List (List ℕ)) (host : List ℕ) (minute : ℕ) → Sort → List ℕ → Option Bool
+-- the judge of a question: "the user, or some group, matches", the minute is one of the item's
+unfoldable pub judgeOf : (user : List ℕ) (groups : List (List ℕ)) (host : List ℕ) (minute : ℕ) → Judge
 judgeOf caller groups host minute user e = Option·map (userApplies caller host) (alternativeOf e)
 judgeOf caller groups host minute group e = Option·map (groupApplies groups host) (alternativeOf e)
 judgeOf caller groups host minute time e = Option·map (λ i. itemMatches i minute) (itemOf e)
 
+-- in a time item only braces and commas mean anything
 abbrev pub kindFor : Sort → Syntax
 kindFor user = ConditionKind
 kindFor group = ConditionKind
@@ -60,9 +61,13 @@ causeFor user = BadAlternative
 causeFor group = BadAlternative
 causeFor time = TimeItem
 
--- "Each brace-free expansion is one alternative", and the `!` "covers all its alternatives"
-unfoldable pub alternativesOf : (Sort → List ℕ → Option Bool) → Bool → Sort → List ℕ → Reading Cause (List Judged)
-alternativesOf judge negated s p = andThen (expanded (kindFor s) p) (readAll (λ e. needed (causeFor s) (judge s e) (λ a. value (judged negated a))))
+-- one expansion: an alternative of a condition that a `!` negates or not
+unfoldable pub alternativeRead : Judge → (negated : Bool) → Sort → List ℕ → Reading Cause Judged
+alternativeRead judge negated s e = needed (causeFor s) (judge s e) (λ a. value (judged negated a))
+
+-- "Each brace-free expansion is one alternative"
+unfoldable pub alternativesOf : Judge → (negated : Bool) → Sort → List ℕ → Reading Cause (List Judged)
+alternativesOf judge negated s p = andThen (expanded (kindFor s) p) (readAll (alternativeRead judge negated s))
 
 -- a condition: what it asks for, and its alternatives
 pub record Condition : Type 0 where
@@ -70,12 +75,16 @@ pub record Condition : Type 0 where
   pub alternatives : List Judged
 
 -- "A field with `=` that is no option and no condition with its prefix is 14"
-abbrev pub conditionBehind : (Sort → List ℕ → Option Bool) → (negated equals : Bool) → Prefixed → Reading Cause Condition
-conditionBehind judge negated equals c =
+abbrev pub conditionIn : Judge → (negated equals : Bool) → Prefixed → Reading Cause Condition
+conditionIn judge negated equals c =
     require (c .written || not equals) OptionName
     (andThen (alternativesOf judge negated (c .sort) (c .pattern)) (λ xs.
     value (record { sort = c .sort; alternatives = xs })))
 
--- one condition, with a judge of its expansions
-unfoldable pub conditionOf : (Sort → List ℕ → Option Bool) → List ℕ → Reading Cause Condition
-conditionOf judge t = conditionBehind judge (headIs (byte "!") t) (has (byte "=") t) (prefixed (unnegated t))
+-- a condition behind its `!`
+unfoldable pub conditionBehind : Judge → (negated : Bool) → List ℕ → Reading Cause Condition
+conditionBehind judge negated t = conditionIn judge negated (has (byte "=") t) (prefixed t)
+
+-- "each with an optional `!` in front that covers all its alternatives"
+unfoldable pub conditionOf : Judge → List ℕ → Reading Cause Condition
+conditionOf judge t = cond (headIs (byte "!") t) (conditionBehind judge true (drop 1 t)) (conditionBehind judge false t)

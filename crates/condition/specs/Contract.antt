@@ -5,18 +5,24 @@ use mathlib.Core.List.{List, [], _∷_}
 use mathlib.Core.Option.{Option, none, some, Option·map}
 use lib.ListN.{drop}
 use Rattle.text.specs.Lists.{any}
+use Rattle.fault.specs.Fault.{Reading, fault, value}
+use Rattle.fault.specs.declared.Cause.{Cause}
+use Rattle.question.specs.Strings.{stringsIn}
 use Rattle.glob.specs.Match.{matches}
-use Rattle.glob.specs.Alternative.{Alternative, alternativeOf}
-use Rattle.times.specs.Item.{itemOf, itemMatches}
+use Rattle.glob.specs.Alternative.{Alternative}
 use Rattle.condition.specs.declared.rightmost.Rightmost.{Rightmost}
 use Rattle.condition.specs.declared.prefix.Asks.{Asks}
 use Rattle.condition.specs.declared.prefix.Asks.the-variants.{User, Group, Time}
 use Rattle.condition.specs.declared.prefix.Prefix.{Prefix}
+use Rattle.condition.specs.declared.condition.Added.{Added}
+use Rattle.condition.specs.declared.condition.Added.the-variants.{Fault as AddedFault, Kept}
+use Rattle.condition.specs.declared.condition.ConditionRead.{ConditionRead}
+use Rattle.condition.specs.declared.condition.ConditionRead.the-variants.{Fault, Users, Times}
 use Rattle.condition.specs.declared.judge.Judgement.{Judgement}
 use Rattle.condition.specs.declared.judge.Judgement.the-variants.{Malformed, Applies, Misses}
 use Rattle.condition.specs.Rightmost.{Judged}
 use Rattle.condition.specs.Users.{onHost}
-use Rattle.condition.specs.Condition.{Sort, user, group, time, Prefixed, behindPrefix}
+use Rattle.condition.specs.Condition.{Sort, user, group, time, Prefixed, behindPrefix, Judge, judgeOf, Condition}
 
 -- no alternative so far
 abbrev pub noneKept : Rightmost
@@ -56,30 +62,50 @@ judgementIn true = Applies
 judgementIn false = Misses
 
 -- what is found of any alternative
-abbrev pub judgementOf : Option Bool → Judgement
+unfoldable pub judgementOf : Option Bool → Judgement
 judgementOf none = Malformed
 judgementOf (some b) = judgementIn b
 
--- a judge who lets no alternative apply where nothing is to be judged, and finds the same malformed
-abbrev pub judgeIf : Bool → (Sort → List ℕ → Option Bool) → Sort → List ℕ → Option Bool
+-- a judge who finds the same alternatives malformed, and lets none apply unless something is to be judged
+abbrev pub judgeIf : Bool → Judge → Judge
 judgeIf judging judge s e = Option·map (λ b. judging && b) (judge s e)
 
+-- the judge of a question, with the groups as zero-ended strings
+unfoldable pub judgeBy : Bool → (user groups host : List ℕ) (minute : ℕ) → Judge
+judgeBy judging u gs h m = judgeIf judging (judgeOf u (stringsIn gs) h m)
+
 -- the user, or some group, matches
-unfoldable pub nameApplies : Sort → (pattern user : List ℕ) (groups : List (List ℕ)) → Bool
-nameApplies user p u gs = matches p u
-nameApplies group p u gs = any (matches p) gs
-nameApplies time p u gs = false
+unfoldable pub nameApplies : Bool → Sort → (user : List ℕ) (groups : List (List ℕ)) (pattern : List ℕ) → Bool
+nameApplies judging user u gs p = judging && matches p u
+nameApplies judging group u gs p = judging && any (matches p) gs
+nameApplies judging time u gs p = false
 
 -- the name and the host
-unfoldable pub appliesBy : Sort → (user : List ℕ) (groups : List (List ℕ)) (host : List ℕ) → Alternative → Bool
+unfoldable pub appliesBy : Bool → Sort → (user : List ℕ) (groups : List (List ℕ)) (host : List ℕ) → Alternative → Bool
 unfolding nameApplies
-appliesBy s u gs h a = nameApplies s (a .name) u gs && onHost h (a .host)
+appliesBy judging s u gs h a = nameApplies judging s u gs (a .name) && onHost h (a .host)
 
--- a user or group alternative, where it is judged or only looked at
-unfoldable pub namesJudged : Bool → Sort → (user : List ℕ) (groups : List (List ℕ)) (host e : List ℕ) → Option Bool
-unfolding appliesBy
-namesJudged judging s u gs h e = Option·map (λ a. judging && appliesBy s u gs h a) (alternativeOf e)
+-- what is kept with the alternatives of a reading, or its fault
+unfoldable pub addedBy : Rightmost → Reading Cause (List Judged) → Added
+addedBy r (fault c) = AddedFault c
+addedBy r (value xs) = Kept (addedAll r xs)
 
--- a time item, where it is judged or only looked at
-unfoldable pub timeJudged : Bool → ℕ → List ℕ → Option Bool
-timeJudged judging minute e = Option·map (λ i. judging && itemMatches i minute) (itemOf e)
+-- users and groups are kept together, times apart
+abbrev pub keptFor : Sort → (users times : Rightmost) → Rightmost
+keptFor user us ts = us
+keptFor group us ts = us
+keptFor time us ts = ts
+
+abbrev pub readFor : Sort → Rightmost → ConditionRead
+readFor user r = Users r
+readFor group r = Users r
+readFor time r = Times r
+
+abbrev pub readAdded : Sort → Added → ConditionRead
+readAdded s (AddedFault c) = Fault c
+readAdded s (Kept r) = readFor s r
+
+-- what a condition comes to: its fault, or what is kept of its sort with its alternatives
+unfoldable pub conditionRead : (users times : Rightmost) → Reading Cause Condition → ConditionRead
+conditionRead us ts (fault c) = Fault c
+conditionRead us ts (value c) = readFor (c .sort) (addedAll (keptFor (c .sort) us ts) (c .alternatives))
