@@ -13,7 +13,8 @@ use Rattle.text.proofs.Buffers.{wrote-read}
 use Rattle.fault.specs.Fault.{Reading, fault, value, andThen, needed, readAll}
 use Rattle.fault.specs.declared.Cause.{Cause}
 use Rattle.pattern.specs.declared.Syntax.{Syntax}
-use Rattle.pattern.specs.Whole.{expansionsOf, expansionAt}
+use Rattle.pattern.specs.Whole.{expansionsOf}
+use Rattle.pattern.specs.Contract.{expansionAt}
 use Rattle.condition.specs.declared.rightmost.Rightmost.{Rightmost}
 use Rattle.condition.specs.declared.condition.Added.{Added}
 use Rattle.condition.specs.declared.condition.Added.the-variants.{Fault, Kept}
@@ -63,7 +64,7 @@ module _ (f : List ℕ → Reading Cause Judged) (r : Rightmost) where
         go (value x) p = let q : t ≡ added r x = cc in rw q (rest x (readAll f es))
 
   -- a turn of a loop over the expansions, with the k-th at the beginning of a buffer
-  module _ (kind : Kind) (p : List ℕ) (k : ℕ) where
+  module _ (kind : Syntax) (p : List ℕ) (k : ℕ) where
     abbrev left : ℕ → List (List ℕ)
     left i = drop i (expansionsOf kind p)
 

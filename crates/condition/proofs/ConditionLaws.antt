@@ -13,9 +13,8 @@ use Rattle.fault.specs.Fault.{Reading, fault, value, andThen, needed, readAll, 
 use Rattle.fault.specs.declared.Cause.{Cause}
 use Rattle.fault.specs.declared.Cause.the-variants.{Pattern as BadPattern, PatternSize, OptionName}
 use Rattle.pattern.specs.declared.Syntax.{Syntax}
-use Rattle.pattern.specs.Tree.{Tree, treeOf, fits, expansions, expanded}
-use Rattle.pattern.proofs.Readings.{number-some}
-use Rattle.pattern.proofs.Expansions.{counts}
+use Rattle.pattern.specs.Tree.{expanded}
+use Rattle.pattern.proofs.WholeLaws.{expanded-some}
 use Rattle.condition.specs.Rightmost.{Judged, judged}
 use Rattle.condition.specs.Condition.{Sort, Judge, Prefixed, prefixed, kindFor, causeFor, alternativeRead, alternativesOf, Condition, conditionIn, conditionBehind, conditionOf}
 use Rattle.condition.specs.Contract.{judgeIf}
@@ -108,21 +107,16 @@ module _ {A : Type 0} where
   Some (fault c) = Unit {0}
   Some (value xs) = null xs ≡ false
 
-some-expanded : (kind : Kind) (p : List ℕ) → Some (expanded kind p)
-unfolding expanded
-some-expanded kind p = go (treeOf kind p)
+some-expanded : (syntax : Syntax) (p : List ℕ) → Some (expanded syntax p)
+some-expanded syntax p = go (expanded syntax p) refl
   where
     there : (es : List (List ℕ)) → 0 < length es → null es ≡ false
     there [] h = absurd (omega arith)
     there (e ∷ es) h = refl
 
-    fitting : (t : Tree) (b : Bool) → Some (require b PatternSize (value (expansions t)))
-    fitting t true = there (expansions t) (omega (arith, counts t, number-some t))
-    fitting t false = tt
-
-    go : (o : Option Tree) → Some (needed BadPattern o (λ t. require (fits t) PatternSize (value (expansions t))))
-    go none = tt
-    go (some t) = fitting t (fits t)
+    go : (o : Reading Cause (List (List ℕ))) → expanded syntax p ≡ o → Some o
+    go (fault c) q = tt
+    go (value es) q = there es (expanded-some syntax p es q .0)
 
 some-each : (f : List ℕ → Reading Cause Judged) (o : Reading Cause (List (List ℕ))) → Some o → Some (andThen o (readAll f))
 unfolding readAll

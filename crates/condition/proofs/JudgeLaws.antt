@@ -1,6 +1,6 @@
 -- What the code finds of an alternative is what the judge says of it.
 use mathlib.Core.Path.{_≡_, refl, sym, ap, _∙_}
-use mathlib.Core.Bool.{Bool, true, false, not, _&&_}
+use mathlib.Core.Bool.{Bool, true, false, not, cond, _&&_}
 use mathlib.Core.List.{List, []}
 use mathlib.Core.Option.{Option, none, some, Option·map}
 use Prim.Native.Nat.{ℕ, _+_, _-_, _≤_, _<_}
@@ -15,7 +15,8 @@ use Rattle.glob.specs.Alternative.{Alternative, alternativeOf}
 use Rattle.times.specs.declared.item.ItemAnswer.{ItemAnswer}
 use Rattle.times.specs.declared.item.ItemAnswer.the-variants.{Matches, Misses as ItemMisses, Malformed as NoItem}
 use Rattle.times.specs.declared.item.TimeItem.{TimeItem}
-use Rattle.times.specs.Item.{itemOf, itemMatches, answered, itemAnswer}
+use Rattle.times.specs.Item.{itemOf, itemMatches}
+use Rattle.times.specs.Contract.{itemAnswer}
 use Rattle.condition.specs.declared.prefix.Asks.{Asks}
 use Rattle.condition.specs.declared.prefix.Asks.the-variants.{User, Group, Time}
 use Rattle.condition.specs.declared.judge.Judgement.{Judgement}
@@ -100,7 +101,7 @@ module _ (judging : Bool) (minute : ℕ) where
   item-malformed none e = refl
   item-malformed (some i) e = go (itemMatches i minute) e
     where
-      go : (b : Bool) → NoItem ≡ answered b → Malformed ≡ judgementIn (judging && b)
+      go : (b : Bool) → NoItem ≡ cond b Matches ItemMisses → Malformed ≡ judgementIn (judging && b)
       go true e = clash cc
       go false e = clash cc
 
@@ -109,7 +110,7 @@ module _ (judging : Bool) (minute : ℕ) where
   item-misses none e = cc
   item-misses (some i) e = go (itemMatches i minute) e
     where
-      go : (b : Bool) → ItemMisses ≡ answered b → Misses ≡ judgementIn (judging && b)
+      go : (b : Bool) → ItemMisses ≡ cond b Matches ItemMisses → Misses ≡ judgementIn (judging && b)
       go true e = cc
       go false e = rw (both-no judging)
 
@@ -118,7 +119,7 @@ module _ (judging : Bool) (minute : ℕ) where
   item-matches none e = cc
   item-matches (some i) e = go (itemMatches i minute) e
     where
-      go : (b : Bool) → Matches ≡ answered b → judgementIn judging ≡ judgementIn (judging && b)
+      go : (b : Bool) → Matches ≡ cond b Matches ItemMisses → judgementIn judging ≡ judgementIn (judging && b)
       go true e = rw (both-yes judging)
       go false e = cc
 

@@ -16,13 +16,10 @@ use Rattle.text.proofs.Lists.{has-at}
 use Rattle.text.proofs.Slices.{byte-at, byte-none}
 use Rattle.fault.specs.Fault.{Reading, fault, value, andThen, readAll, require}
 use Rattle.fault.specs.declared.Cause.{Cause}
-use Rattle.fault.specs.declared.Cause.the-variants.{Pattern as BadPattern, PatternSize, OptionName, FieldLength}
+use Rattle.fault.specs.declared.Cause.the-variants.{OptionName, FieldLength}
 use Rattle.pattern.specs.declared.Syntax.{Syntax}
-use Rattle.pattern.specs.declared.Pattern.{Pattern}
-use Rattle.pattern.specs.declared.Shape.the-variants.{Malformed, Read}
-use Rattle.pattern.specs.Tree.{Tree, treeOf, fits, expansions, expanded}
-use Rattle.pattern.specs.Whole.{shapeOf, expansionsOf}
-use Rattle.pattern.proofs.Wholes.{Sized, sized, malformed-is, fits-told, expansions-are}
+use Rattle.pattern.specs.Tree.{expanded}
+use Rattle.pattern.specs.Whole.{orNone, expansionsOf}
 use Rattle.condition.specs.declared.rightmost.Rightmost.{Rightmost}
 use Rattle.condition.specs.declared.prefix.Prefix.{Prefix}
 use Rattle.condition.specs.declared.condition.Added.{Added}
@@ -32,24 +29,6 @@ use Rattle.condition.specs.declared.condition.ConditionRead.the-variants
 use Rattle.condition.specs.Rightmost.{Judged}
 use Rattle.condition.specs.Condition.{Sort, Judge, judgeOf, kindFor, alternativeRead, alternativesOf, prefixed, conditionBehind, conditionOf}
 use Rattle.condition.specs.Contract.{sortIn, prefixedIn, addedAll, addedBy, keptFor, readAdded, conditionRead}
-use Rattle.condition.proofs.SingleLaws.{single-is}
-
--- ---- the first byte
-module _ (d : ℕ) where
-  pub head-none : (s : List ℕ) → length s ≡ 0 → false ≡ headIs d s
-  unfolding headIs
-  head-none [] h = refl
-  head-none (x ∷ s) h = absurd (omega arith)
-
-  pub head-some : (s : List ℕ) → (length s ≡ 0 → ⊥) → eqb (getD s 0 0) d ≡ headIs d s
-  unfolding headIs
-  head-some [] h = absurd (h refl)
-  head-some (x ∷ s) h = refl
-
-  pub head-there : (s : List ℕ) → headIs d s ≡ true → 0 < length s
-  unfolding headIs
-  head-there [] e = clash cc
-  head-there (x ∷ s) e = omega arith
 
 -- ---- no `=` without a prefix
 module _ (written : Bool) (t : List ℕ) (w : written ≡ false) where
@@ -60,31 +39,23 @@ module _ (written : Bool) (t : List ℕ) (w : written ≡ false) where
   equals-none e = rw (w, byte-none 61 0 t e)
 
 -- ---- the pattern: well formed, depth and number, then its expansions
-module _ (judge : Judge) (negated : Bool) (s : Sort) (p : List ℕ) (r : Rightmost) (kind : Kind) (k : kind ≡ kindFor s) where
-  pub pattern-bad : shapeOf kind p ≡ Malformed → AddedFault BadPattern ≡ addedBy r (alternativesOf judge negated s p)
-  unfolding addedBy alternativesOf expanded
-  pattern-bad e = rw (← k, malformed-is kind p e)
+module _ (judge : Judge) (negated : Bool) (s : Sort) (p : List ℕ) (r : Rightmost) (syntax : Syntax) (k : syntax ≡ kindFor s) where
+  pub pattern-fault : {c : Cause} → expanded syntax p ≡ fault c → AddedFault c ≡ addedBy r (alternativesOf judge negated s p)
+  unfolding addedBy alternativesOf
+  pattern-fault e = rw (← k, e)
 
-  module _ (size : Pattern) (e : shapeOf kind p ≡ Read size) where
-    told : Sized kind p size
-    told = sized kind p size e
+  pub pattern-read : {es : List (List ℕ)} → expanded syntax p ≡ value es → addedBy r (readAll (alternativeRead judge negated s) (expansionsOf syntax p)) ≡ addedBy r (alternativesOf judge negated s p)
+  unfolding alternativesOf expansionsOf
+  pattern-read e = rw (← k, e)
 
-    pub pattern-large : leb (size .depth) 4 && leb (size .number) 64 ≡ false → AddedFault PatternSize ≡ addedBy r (alternativesOf judge negated s p)
-    unfolding addedBy alternativesOf expanded
-    pattern-large f = let z : fits (told .tree) ≡ false = sym (fits-told kind p size told) ∙ f in rw (← k, told .is-tree, z)
-
-    module _ (f : leb (size .depth) 4 && leb (size .number) 64 ≡ true) (h : length p ≤ 1024) where
-      fit : fits (told .tree) ≡ true
-      fit = sym (fits-told kind p size told) ∙ f
-
-      pub pattern-read : addedBy r (readAll (alternativeRead judge negated s) (expansionsOf kind p)) ≡ addedBy r (alternativesOf judge negated s p)
-      unfolding alternativesOf expanded
-      pattern-read = rw (← k, told .is-tree, fit, expansions-are kind p (told .tree) (told .is-tree) h fit)
-
-      pub pattern-single : eqb (size .depth) 0 && eqb (size .number) 1 ≡ true → addedBy r (readAll (alternativeRead judge negated s) (p ∷ [])) ≡ addedBy r (alternativesOf judge negated s p)
-      pattern-single g =
-          let b = both-true (eqb (size .depth) 0) (eqb (size .number) 1) g in
-          rw (← (single-is kind p size told h fit (eqb-true (size .depth) 0 (b .0)) (eqb-true (size .number) 1 (b .1)))) pattern-read
+  -- a pattern that is its own only expansion
+  pub pattern-flat : expansionsOf syntax p ≡ p ∷ [] → addedBy r (readAll (alternativeRead judge negated s) (p ∷ [])) ≡ addedBy r (alternativesOf judge negated s p)
+  unfolding expansionsOf
+  pattern-flat e = ap (λ es. addedBy r (readAll (alternativeRead judge negated s) es)) (sym e) ∙ go (expanded syntax p) refl e
+    where
+      go : (o : Reading Cause (List (List ℕ))) → expanded syntax p ≡ o → orNone o ≡ p ∷ [] → addedBy r (readAll (alternativeRead judge negated s) (orNone (expanded syntax p))) ≡ addedBy r (alternativesOf judge negated s p)
+      go (fault c) q h = clash cc
+      go (value es) q h = pattern-read q
 
 -- ---- behind the `!`
 module _ (judge : Judge) (negated : Bool) (t : List ℕ) (us ts : Rightmost) (p : Prefix) (e : prefixedIn t p ≡ prefixed t) where

@@ -5,24 +5,25 @@ use super::prefix::Asks;
 use super::prefix::prefix_of;
 use super::rightmost::Rightmost;
 use fault::Cause;
-use pattern::Syntax;
+use pattern::Expanded;
 use pattern::Pattern;
-use pattern::Shape;
+use pattern::Syntax;
 use pattern::expand::expansion;
-use pattern::reader::read_pattern;
+use pattern::reader::read_expansions;
+use pattern::whole::is_flat;
 use question::WeekMinute;
 use text::buffer::Filled;
 use text::slice::Found;
 use text::slice::find_byte;
+use text::slice::head_is;
 ghost use Prim.Native.Nat.{_≤_};
 ghost use mathlib.Core.Path.{_≡_};
-ghost use mathlib.Core.Bool.{not, _&&_, _||_};
+ghost use mathlib.Core.Bool.{not, _||_};
 ghost use mathlib.Core.List.{[], _∷_};
-ghost use lib.Dec.{eqb, leb};
+ghost use lib.Dec.{leb};
 ghost use lib.ListN.{length};
 ghost use Rattle.text.specs.Bytes.{byte};
 ghost use Rattle.text.specs.Lists.{has};
-ghost use Rattle.text.specs.Slice.{headIs};
 ghost use Rattle.fault.specs.Fault.{readAll, require};
 ghost use Rattle.pattern.specs.Whole.{expansionsOf};
 ghost use Rattle.question.specs.Strings.{stringsIn};
@@ -40,15 +41,6 @@ pub enum ConditionRead {
 enum Added {
     Fault(Cause),
     Kept(Rightmost),
-}
-
-fn head_is(s: &[u8], c: u8) -> bool
-    ensures { λ r. ⌜ r ≡ headIs c (now (s .entry)) ⌝ }
-{
-    if s.len() == 0 {
-        return false;
-    }
-    s[0] == c
 }
 
 // Whether a text without a prefix has no `=`.
@@ -84,15 +76,6 @@ fn cause_for(asks: Asks) -> Cause
     }
 }
 
-fn is_single(size: Pattern) -> bool
-    ensures { λ r. ⌜ r ≡ eqb (size .depth) 0 && eqb (size .number) 1 ⌝ }
-{
-    if size.depth == 0 {
-        return size.number == 1;
-    }
-    false
-}
-
 // One alternative more.
 fn add_one(
     asks: Asks,
@@ -116,7 +99,7 @@ fn add_one(
 
 // All expansions of a pattern that has so many.
 fn add_all(
-    kind: Kind,
+    syntax: Syntax,
     asks: Asks,
     negated: bool,
     judging: bool,
@@ -128,14 +111,14 @@ fn add_all(
     minute: WeekMinute,
     kept: Rightmost,
 ) -> Added
-    requires { ⌜ (length (now p) ≤ 1024) × (number ≡ length (expansionsOf kind (now p))) ⌝ }
-    ensures { λ r. ⌜ r ≡ addedBy kept (readAll (alternativeRead (judgeBy judging (now (user .entry)) (now (groups .entry)) (now (host .entry)) (minute .0)) negated (sortIn asks)) (expansionsOf kind (now (p .entry)))) ⌝ }
+    requires { ⌜ (length (now p) ≤ 1024) × (number ≡ length (expansionsOf syntax (now p))) ⌝ }
+    ensures { λ r. ⌜ r ≡ addedBy kept (readAll (alternativeRead (judgeBy judging (now (user .entry)) (now (groups .entry)) (now (host .entry)) (minute .0)) negated (sortIn asks)) (expansionsOf syntax (now (p .entry)))) ⌝ }
 {
     let mut out = [0u8; Pattern::BYTES];
     let mut r = kept;
     let mut k = 0;
     while k < number {
-        match expansion(kind, p, k, &mut out) {
+        match expansion(syntax, p, k, &mut out) {
             Filled::Done(n) => {
                 match add_one(
                     asks,
@@ -180,30 +163,25 @@ fn add_alternatives(
     requires { ⌜ length (now p) ≤ 1024 ⌝ }
     ensures { λ r. ⌜ r ≡ addedBy kept (alternativesOf (judgeBy judging (now (user .entry)) (now (groups .entry)) (now (host .entry)) (minute .0)) negated (sortIn asks) (now (p .entry))) ⌝ }
 {
-    let kind = kind_for(asks);
-    match read_pattern(kind, p) {
-        Shape::Malformed => Added::Fault(Cause::Pattern),
-        Shape::Read(size) => {
-            if !size.fits() {
-                return Added::Fault(Cause::PatternSize);
-            }
-            if is_single(size) {
-                return add_one(asks, negated, judging, p, user, groups, host, minute, kept);
-            }
-            add_all(
-                kind,
-                asks,
-                negated,
-                judging,
-                p,
-                size.number,
-                user,
-                groups,
-                host,
-                minute,
-                kept,
-            )
-        }
+    let syntax = kind_for(asks);
+    if is_flat(syntax, p) {
+        return add_one(asks, negated, judging, p, user, groups, host, minute, kept);
+    }
+    match read_expansions(syntax, p) {
+        Expanded::Fault(cause) => Added::Fault(cause),
+        Expanded::Number(number) => add_all(
+            syntax,
+            asks,
+            negated,
+            judging,
+            p,
+            number,
+            user,
+            groups,
+            host,
+            minute,
+            kept,
+        ),
     }
 }
 

@@ -15,18 +15,15 @@ use Rattle.text.specs.Bytes.{bytes}
 use Rattle.text.specs.Class.{Range, range}
 use Rattle.text.specs.Slice.{same, startsWith, findByte}
 use Rattle.text.specs.declared.slice.Found.the-variants.{At, Nothing as Missing}
-use Rattle.text.proofs.Laws.{part-rest, both-no, clash}
+use Rattle.text.proofs.Laws.{part-rest, both-no}
 use Rattle.text.proofs.Lists.{parted-found, parted-missing}
 use Rattle.text.proofs.Slices.{same-true}
-use Rattle.fault.specs.Fault.{Reading, fault, value, needed, require, andThen}
+use Rattle.fault.specs.Fault.{Reading, fault, value, needed, require}
 use Rattle.fault.specs.declared.Cause.{Cause}
 use Rattle.fault.specs.declared.Cause.the-variants.{IdLength, OptionValue, PatternKind, Pattern as BadPattern, PatternSize}
 use Rattle.pattern.specs.declared.Syntax.the-variants.{Plain}
-use Rattle.pattern.specs.declared.Expanded.{Expanded}
-use Rattle.pattern.specs.declared.Expanded.the-variants.{Fault as ExpandedFault, Number}
 use Rattle.pattern.specs.Tree.{expanded}
-use Rattle.pattern.specs.Whole.{orNone, expansionsOf}
-use Rattle.pattern.specs.Contract.{expandedIn}
+use Rattle.pattern.specs.Whole.{expansionsOf}
 use Rattle.options.specs.Read.{Setting, setId, setAuth, setNargs, setShell, setArgument, idLimit, lastPosition, mostNargs, isId, idOf, authOf, timeoutOf, numberRange, nargsOf, patternsOf, argumentOf, optionNamed, optionOf}
 use Rattle.options.specs.Contract.{spanIn, valueIn, readIn}
 use Rattle.options.specs.declared.Id.{Id}
@@ -76,23 +73,6 @@ module _ (v : List ℕ) where
   pub patterns-other : same v (bytes "shell") ≡ false → some (fault PatternKind) ≡ some (patternsOf v)
   patterns-other e = rw e
 
--- what the answer of a pattern's reading says of its expansions
-module _ (v : List ℕ) (r : Expanded) (h : expandedIn r ≡ andThen (expanded Plain v) (λ es. value (length es))) where
-  pub expanded-fault : {c : Cause} → r ≡ ExpandedFault c → expanded Plain v ≡ fault c
-  expanded-fault {c} e = go (expanded Plain v) (sym (ap expandedIn e) ∙ h)
-    where
-      go : (o : Reading Cause (List (List ℕ))) → fault c ≡ andThen o (λ es. value (length es)) → o ≡ fault c
-      go (fault d) q = cc
-      go (value es) q = clash cc
-
-  pub expanded-good : {k : ℕ} → r ≡ Number k → expanded Plain v ≡ value (expansionsOf Plain v)
-  unfolding expansionsOf
-  expanded-good {k} e = go (expanded Plain v) (sym (ap expandedIn e) ∙ h)
-    where
-      go : (o : Reading Cause (List (List ℕ))) → value k ≡ andThen o (λ es. value (length es)) → o ≡ value (orNone o)
-      go (fault d) q = clash cc
-      go (value es) q = refl
-
 -- a pattern for positions as written
 module _ (v s : List ℕ) where
   abbrev argument : Option (Reading Cause Setting)
@@ -105,14 +85,13 @@ module _ (v s : List ℕ) where
     argument-is : {o : Reading Cause Setting} → argumentOf (range m n) v ≡ o → some o ≡ argument
     argument-is h = let p : some (range m n) ≡ numberRange 1 lastPosition s = rw q at e in rw (sym p, h)
 
-    module _ (r : Expanded) (h : expandedIn r ≡ andThen (expanded Plain v) (λ es. value (length es))) where
-      pub argument-fault : {c : Cause} → r ≡ ExpandedFault c → some (fault c) ≡ argument
-      unfolding argumentOf
-      argument-fault f = argument-is (rw (expanded-fault v r h f))
+    pub argument-fault : {c : Cause} → expanded Plain v ≡ fault c → some (fault c) ≡ argument
+    unfolding argumentOf
+    argument-fault h = argument-is (rw h)
 
-      pub argument-good : {k : ℕ} → r ≡ Number k → some (value (setArgument (range m n) (expansionsOf Plain v))) ≡ argument
-      unfolding argumentOf
-      argument-good f = argument-is (rw (expanded-good v r h f))
+    pub argument-good : {es : List (List ℕ)} → expanded Plain v ≡ value es → some (value (setArgument (range m n) (expansionsOf Plain v))) ≡ argument
+    unfolding argumentOf expansionsOf
+    argument-good h = argument-is (rw h)
 
 -- the name is none of these
 abbrev pub Other : List ℕ → List String → Type 0

@@ -17,7 +17,7 @@ use Rattle.question.specs.Question.{Question}
 use Rattle.question.specs.Password.{passwordNeeded}
 use Rattle.options.specs.Options.{Options, noOptions, over, authOr, timeoutOr, nargsAllow}
 use Rattle.options.specs.Arguments.{ArgumentPattern, argumentsPass, inForce}
-use Rattle.options.specs.Read.{auth, timeout, nargs, optionsOf, argumentsOf}
+use Rattle.options.specs.Read.{optionsOf, argumentsOf}
 use Rattle.entry.specs.Field.{Entry, pairs}
 use Rattle.entry.specs.Entry.{pathFor, conditionsAccept}
 use Rattle.entry.specs.Verdict.{Verdict, permit, password, stoppedByNargs, stoppedByArgument, stoppedByPath, verdictOn, verdictIf, verdictOf}
@@ -58,7 +58,7 @@ short-verdict q o ps e h k = by (pathFor (q .command) (e .pairs))
     by : (p : Option (List ℕ)) → ShortOwn (verdictIf q o ps e p)
     by none = tt
     by (some path) =
-        pick-of ShortOwn (conditionsAccept q e)
+        pick-of ShortOwn (conditionsAccept (q .user) e)
         (short-on q (over (optionsOf (e .settings)) o) (inForce ps (argumentsOf (e .settings))) path (short-over (optionsOf (e .settings)) o (short-options (e .settings) k) h))
         tt
 

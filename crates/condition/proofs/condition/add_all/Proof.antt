@@ -2,7 +2,7 @@ use lib.ListN.{length, drop, length-replicate}
 use Rattle.condition.proofs.AddedLaws.{each-fault, each-kept, each-end}
 use Rattle.condition.specs.Contract.{sortIn, judgeBy, addedBy}
 use Rattle.condition.specs.Condition.{alternativeRead}
-use Rattle.pattern.proofs.Wholes.{never-full}
+use Rattle.pattern.proofs.WholeLaws.{never-full}
 use Rattle.pattern.specs.Whole.{expansionsOf}
 use Rattle.fault.specs.Fault.{readAll}
 use Rattle.text.proofs.Buffers.{wrote-done, wrote-length}

@@ -1,69 +1,59 @@
-use Rattle.condition.proofs.ReadLaws.{pattern-bad, pattern-large, pattern-read, pattern-single}
-use Rattle.pattern.proofs.Wholes.{sized, how-many}
-use borrow.Author.Tests.{not-true, not-false}
-use mathlib.Core.Path.{sym, _∙_}
-use borrow.Author.Needs.{needs}
 use native.Mathlib.Omega.{arith}
+use Rattle.condition.proofs.ReadLaws.{pattern-fault, pattern-read, pattern-flat}
+use Rattle.pattern.proofs.WholeLaws.{told-fault, told-number, count-some}
+use mathlib.Core.Path.{_≡_, sym, _∙_}
+use borrow.Author.Needs.{needs}
 use Rattle.condition.proofs.condition.add_alternatives.Statement.{statement}
 use Rattle.condition.proofs.condition.add_alternatives.Tie as tie
 use Rattle.condition.proofs.condition.add_alternatives.Reads as reads
 use Rattle.condition.proofs.condition.add_alternatives.Lts as lts
 use Rattle.condition.proofs.condition.add_all.Reads as add-all-reads
 use Rattle.condition.proofs.condition.add_one.Reads as add-one-reads
-use Rattle.condition.proofs.condition.is_single.Reads as is-single-reads
 use Rattle.condition.proofs.condition.kind_for.Reads as kind-for-reads
-use Rattle.pattern.proofs.Pattern.fits.Reads as fits-reads
-use Rattle.pattern.proofs.reader.read_pattern.Reads as read-pattern-reads
+use Rattle.pattern.proofs.reader.read_expansions.Reads as read-expansions-reads
+use Rattle.pattern.proofs.whole.is_flat.Reads as is-flat-reads
 
 kind-for-requires : tie.Need-kind-for-requires
 kind-for-requires c κs = search needs
 
-read-pattern-requires : tie.Need-read-pattern-requires
-read-pattern-requires c κs = search needs
-
-enum-told : tie.Need-enum-told
-enum-told c = search needs
-
-enum-known-size : tie.Need-enum-known-size
-enum-known-size c = search needs
-
-fits-requires : tie.Need-fits-requires
-fits-requires c κs = search needs
-
-returns : tie.Need-returns
-returns c = pattern-large _ _ _ _ _ _ (c .before .before .before .before .before .before .kind-for .ensures) _ (sym (c .before .before .before .before .before .read-pattern .ensures) ∙ c .before .before .before .size .given .1) (sym (c .before .fits2 .ensures) ∙ not-true _ (c .if1 .taken))
-
-is-single-requires : tie.Need-is-single-requires
-is-single-requires c κs = search needs
+is-flat-requires : tie.Need-is-flat-requires
+is-flat-requires c κs = search needs
 
 add-one-requires : tie.Need-add-one-requires
 add-one-requires c κs = search needs
 
-returns-2 : tie.Need-returns-2
-returns-2 c = c .add-one .ensures ∙ pattern-single _ _ _ _ _ _ (c .before .before .before .before .before .before .before .before .before .kind-for .ensures) _ (sym (c .before .before .before .before .before .before .before .before .read-pattern .ensures) ∙ c .before .before .before .before .before .before .size .given .1) (sym (c .before .before .before .before .fits2 .ensures) ∙ not-false _ (c .before .before .before .if1 .left)) (c .before .before .before .before .before .before .before .before .before .before .before .before .before .before .pre) (sym (c .before .before .is-single .ensures) ∙ c .before .if2 .taken)
+returns : tie.Need-returns
+returns c = c .add-one .ensures ∙ pattern-flat _ _ _ _ _ _ (c .before .before .before .kind-for .ensures) (c .before .before .is-flat .ensures (c .before .if1 .taken))
+
+read-expansions-requires : tie.Need-read-expansions-requires
+read-expansions-requires c κs = search needs
+
+enum-known-cause : tie.Need-enum-known-cause
+enum-known-cause c = search needs
+
+enum-known-number : tie.Need-enum-known-number
+enum-known-number c = search needs
 
 add-all-requires : tie.Need-add-all-requires
-add-all-requires c κs = (c .before .before .before .before .before .before .before .before .before .before .before .before .before .pre, how-many _ _ _ (sized _ _ _ (sym (c .before .before .before .before .before .before .before .read-pattern .ensures) ∙ c .before .before .before .before .before .size .given .1)) (c .before .before .before .before .before .before .before .before .before .before .before .before .before .pre) (sym (c .before .before .before .fits2 .ensures) ∙ not-false _ (c .before .before .if1 .left)))
+add-all-requires c κs = (c .before .before .before .before .before .before .before .before .before .before .before .pre, count-some _ _ _ (rw (c .before .number .given .1) at (c .before .before .before .read-expansions .ensures)))
+
+returns-2 : tie.Need-returns-2
+returns-2 c = pattern-fault _ _ _ _ _ _ (c .before .before .before .before .before .before .kind-for .ensures) (told-fault _ _ _ (rw (c .before .cause .given .1) at (c .before .before .before .read-expansions .ensures)))
 
 returns-3 : tie.Need-returns-3
-returns-3 c = pattern-bad _ _ _ _ _ _ (c .before .before .before .kind-for .ensures) (sym (c .before .before .read-pattern .ensures) ∙ c .enum-told .given .1)
-
-returns-4 : tie.Need-returns-4
-returns-4 c = c .add-all .ensures ∙ pattern-read _ _ _ _ _ _ (c .before .before .before .before .before .before .before .before .before .kind-for .ensures) _ (sym (c .before .before .before .before .before .before .before .before .read-pattern .ensures) ∙ c .before .before .before .before .before .before .size .given .1) (sym (c .before .before .before .before .fits2 .ensures) ∙ not-false _ (c .before .before .before .if1 .left)) (c .before .before .before .before .before .before .before .before .before .before .before .before .before .before .pre)
+returns-3 c = c .add-all .ensures ∙ pattern-read _ _ _ _ _ _ (c .before .before .before .before .before .before .before .kind-for .ensures) (told-number _ _ _ (rw (c .before .before .number .given .1) at (c .before .before .before .before .read-expansions .ensures)) .1)
 
 pub add-alternatives-spec : {M : Type 1} → statement M
 add-alternatives-spec =
     tie.close
     (tie.spec
     kind-for-requires
-    read-pattern-requires
-    enum-told
-    enum-known-size
-    fits-requires
-    returns
-    is-single-requires
+    is-flat-requires
     add-one-requires
-    returns-2
+    returns
+    read-expansions-requires
+    enum-known-cause
+    enum-known-number
     add-all-requires
-    returns-3
-    returns-4)
+    returns-2
+    returns-3)

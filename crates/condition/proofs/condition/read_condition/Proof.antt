@@ -1,4 +1,5 @@
-use Rattle.condition.proofs.ReadLaws.{head-there, read-long, read-negated, read-plain}
+use Rattle.text.proofs.Slices.{head-is}
+use Rattle.condition.proofs.ReadLaws.{read-long, read-negated, read-plain}
 use Rattle.condition.specs.Contract.{judgeBy}
 use Rattle.text.proofs.Laws.{part-rest}
 use mathlib.Core.Path.{sym, _∙_}
@@ -8,7 +9,7 @@ use Rattle.condition.proofs.condition.read_condition.Statement.{stateme
 use Rattle.condition.proofs.condition.read_condition.Tie as tie
 use Rattle.condition.proofs.condition.read_condition.Reads as reads
 use Rattle.condition.proofs.condition.read_condition.Lts as lts
-use Rattle.condition.proofs.condition.head_is.Reads as head-is-reads
+use Rattle.text.proofs.slice.head_is.Reads as head-is-reads
 use Rattle.condition.proofs.condition.read_behind.Reads as read-behind-reads
 
 returns : tie.Need-returns
@@ -19,10 +20,10 @@ head-is-requires : tie.Need-head-is-requires
 head-is-requires c κs = search needs
 
 sub-read-behind : tie.Need-sub-read-behind
-sub-read-behind c = omega (arith, head-there _ _ (sym (c .before .head-is .ensures) ∙ c .if2 .taken))
+sub-read-behind c = let h = head-is 33 (c .before .before .before .before .before .before .before .args .text .now) (sym (c .before .head-is .ensures) ∙ c .if2 .taken) in omega (arith, h .0)
 
 part-read-behind-start : tie.Need-part-read-behind-start
-part-read-behind-start c = omega (arith, head-there _ _ (sym (c .before .head-is .ensures) ∙ c .if2 .taken))
+part-read-behind-start c = let h = head-is 33 (c .before .before .before .before .before .before .before .args .text .now) (sym (c .before .head-is .ensures) ∙ c .if2 .taken) in omega (arith, h .0)
 
 part-read-behind-end : tie.Need-part-read-behind-end
 part-read-behind-end c = search needs

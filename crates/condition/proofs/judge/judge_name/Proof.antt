@@ -11,8 +11,8 @@ use Rattle.condition.proofs.judge.judge_name.Reads as reads
 use Rattle.condition.proofs.judge.judge_name.Lts as lts
 use Rattle.condition.proofs.judge.name_matches.Reads as name-matches-reads
 use Rattle.condition.proofs.judge.of_test.Reads as of-test-reads
-use Rattle.pattern.proofs.alternative.part.Reads as part-reads
-use Rattle.pattern.proofs.matcher.matches_expansion.Reads as matches-expansion-reads
+use Rattle.glob.proofs.alternative.part.Reads as part-reads
+use Rattle.glob.proofs.matcher.matches_expansion.Reads as matches-expansion-reads
 
 part-requires : tie.Need-part-requires
 part-requires c κs = search needs

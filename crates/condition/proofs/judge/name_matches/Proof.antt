@@ -7,7 +7,7 @@ use Rattle.condition.proofs.judge.name_matches.Tie as tie
 use Rattle.condition.proofs.judge.name_matches.Reads as reads
 use Rattle.condition.proofs.judge.name_matches.Lts as lts
 use Rattle.condition.proofs.judge.some_group_matches.Reads as some-group-matches-reads
-use Rattle.pattern.proofs.matcher.matches_expansion.Reads as matches-expansion-reads
+use Rattle.glob.proofs.matcher.matches_expansion.Reads as matches-expansion-reads
 
 returns : tie.Need-returns
 returns c = applies-not _ (c .before .before .before .before .args .asks) _ _ _ (c .if1 .taken)

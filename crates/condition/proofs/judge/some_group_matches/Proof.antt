@@ -11,7 +11,7 @@ use Rattle.condition.proofs.judge.some_group_matches.Statement.{stateme
 use Rattle.condition.proofs.judge.some_group_matches.Tie as tie
 use Rattle.condition.proofs.judge.some_group_matches.Reads as reads
 use Rattle.condition.proofs.judge.some_group_matches.Lts as lts
-use Rattle.pattern.proofs.matcher.matches_expansion.Reads as matches-expansion-reads
+use Rattle.glob.proofs.matcher.matches_expansion.Reads as matches-expansion-reads
 use Rattle.question.proofs.strings.string_end.Reads as string-end-reads
 
 abbrev Inv-loop : tie.InvT-loop
