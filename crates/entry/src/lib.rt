@@ -1,4 +1,2 @@
 // Entries: their conditions, command patterns and path, and what the deciding one answers.
-pub mod entry; // an entry, field by field
-pub mod pair; // a command pattern and its path
 pub mod path; // the path with the command put in
