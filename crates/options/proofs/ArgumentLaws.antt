@@ -1,6 +1,6 @@
 -- Which arguments fail a pattern, kept by value. Assumes nothing.
 use mathlib.Core.Path.{_≡_, refl, sym, ap, _∙_}
-use mathlib.Core.Bool.{Bool, false, not, _||_}
+use mathlib.Core.Bool.{Bool, true, false, not, _&&_, _||_}
 use mathlib.Core.List.{List, [], _∷_, _++_, append-nil}
 use mathlib.Core.Option.{some}
 use Prim.Native.Nat.{ℕ, zero, suc, _+_, _-_, _≤_, _<_}
@@ -15,10 +15,14 @@ use Rattle.text.proofs.Laws.{next-of, both-no, both-yes, not-both}
 use Rattle.text.proofs.Lists.{all-append}
 use Rattle.question.specs.Strings.{stringsIn, untilZero}
 use Rattle.question.proofs.ZeroEnded.{in-at, in-open, in-end}
-use Rattle.pattern.specs.declared.Kind.the-variants.{Plain}
-use Rattle.pattern.specs.Whole.{matchesPattern}
-use Rattle.options.specs.Options.{range}
-use Rattle.options.specs.Arguments.{ArgumentPattern, patternAt, passes, argumentsFrom, argumentsPass, inForce, failuresFrom, failures, marked, joined}
+use Rattle.pattern.specs.declared.Syntax.the-variants.{Plain}
+use Rattle.pattern.specs.Whole.{expansionsOf, fieldExpansions, matchesPattern}
+use Rattle.text.specs.Class.{Range, range}
+use Rattle.options.specs.Arguments.{ArgumentPattern, passes, argumentsFrom, argumentsPass, inForce}
+use Rattle.options.specs.Contract.{settingIn, patternAt, failuresFrom, failures, failuresWith, failuresAfter, eitherFails}
+use Rattle.options.specs.declared.Id.the-variants.{Uid, Euid, Gid, Egid}
+use Rattle.options.specs.declared.read.OptionSetting.{OptionSetting}
+use Rattle.options.specs.declared.read.OptionSetting.the-variants.{SetId, SetAuth, SetTimeout, SetNargs, SetArgument, SetShell}
 
 -- one argument and one pattern
 module _ (k m n : ℕ) (p a : List ℕ) {b : Bool} (e : b ≡ false) where
@@ -46,8 +50,8 @@ append-one : (xs : List Bool) (b : Bool) (ys : List Bool) → (xs ++ (b ∷ []))
 append-one [] b ys = refl
 append-one (x ∷ xs) b ys = ap (λ l. x ∷ l) (append-one xs b ys)
 
-marked-none : (i : ℕ) (p : ArgumentPattern) (fs : List Bool) → marked i p [] fs ≡ fs
-unfolding marked
+marked-none : (i : ℕ) (p : ArgumentPattern) (fs : List Bool) → failuresWith i p [] fs ≡ fs
+unfolding failuresWith
 marked-none i p [] = refl
 marked-none i p (f ∷ fs) = refl
 
@@ -55,7 +59,7 @@ marked-none i p (f ∷ fs) = refl
 module _ (p : ArgumentPattern) (args : List ℕ) (at : List Bool) (from i : ℕ) where
   -- what the loop has done, and what is left to do
   abbrev pub markedFrom : List Bool
-  markedFrom = take i at ++ marked (i + 1) p (stringsIn (drop from args)) (drop i at)
+  markedFrom = take i at ++ failuresWith (i + 1) p (stringsIn (drop from args)) (drop i at)
 
   marked-off : stringsIn (drop from args) ≡ [] → markedFrom ≡ at
   marked-off e = rw (e, marked-none (i + 1) p (drop i at)) (take-append-drop i at)
@@ -64,7 +68,7 @@ module _ (p : ArgumentPattern) (args : List ℕ) (at : List Bool) (from i : ℕ)
   marked-end h = sym (marked-off (in-end args from h))
 
   pub marked-full : length at ≤ i → at ≡ markedFrom
-  unfolding marked
+  unfolding failuresWith
   marked-full h = sym (rw (drop-of-length-le at h, take-all i at h) (append-nil at))
 
   module _ (end : ℕ) (e : end ≡ from + untilZero (drop from args)) where
@@ -73,51 +77,56 @@ module _ (p : ArgumentPattern) (args : List ℕ) (at : List Bool) (from i : ℕ)
 
     pub marked-on : end < length args → i < length at → {b : Bool}
         → b ≡ getD at i false || not (passes (i + 1) (take (end - from) (drop from args)) p)
-        → take (i + 1) (set at i b) ++ marked (i + 1 + 1) p (stringsIn (drop (end + 1) args)) (drop (i + 1) (set at i b)) ≡ markedFrom
-    unfolding marked
+        → take (i + 1) (set at i b) ++ failuresWith (i + 1 + 1) p (stringsIn (drop (end + 1) args)) (drop (i + 1) (set at i b)) ≡ markedFrom
+    unfolding failuresWith
     marked-on h k {b} q =
         rw (stored-front at i b k, stored-back at i b k, in-at args from end e h, next-of false at i k, ← q)
-        (append-one (take i at) b (marked (i + 1 + 1) p (stringsIn (drop (end + 1) args)) (drop (i + 1) at)))
+        (append-one (take i at) b (failuresWith (i + 1 + 1) p (stringsIn (drop (end + 1) args)) (drop (i + 1) at)))
+
+-- an arm of a `match` knows which setting it has
+pub failures-of : {s k : OptionSetting} (v : List ℕ) (xs : List (List ℕ)) (fs : List Bool) {r : List Bool} → s ≡ k → r ≡ failuresAfter v k xs fs → r ≡ failuresAfter v s xs fs
+failures-of v xs fs e h = rw e h
 
 -- the loop that joins two lists of failures
 module _ (at other : List Bool) (i : ℕ) where
   abbrev pub joinedFrom : List Bool
-  joinedFrom = take i at ++ joined (drop i at) (drop i other)
+  joinedFrom = take i at ++ eitherFails (drop i at) (drop i other)
 
   pub joined-end : length at ≤ i → length other ≤ i → at ≡ joinedFrom
-  unfolding joined
+  unfolding eitherFails
   joined-end h k = sym (rw (drop-of-length-le at h, drop-of-length-le other k, take-all i at h) (append-nil at))
 
   pub joined-on : i < length at → i < length other → {b : Bool} → b ≡ getD at i false || getD other i false
-      → take (i + 1) (set at i b) ++ joined (drop (i + 1) (set at i b)) (drop (i + 1) other) ≡ joinedFrom
-  unfolding joined
+      → take (i + 1) (set at i b) ++ eitherFails (drop (i + 1) (set at i b)) (drop (i + 1) other) ≡ joinedFrom
+  unfolding eitherFails
   joined-on h k {b} q =
       rw (stored-front at i b h, stored-back at i b h, next-of false at i h, next-of false other i k, ← q)
-      (append-one (take i at) b (joined (drop (i + 1) at) (drop (i + 1) other)))
+      (append-one (take i at) b (eitherFails (drop (i + 1) at) (drop (i + 1) other)))
 
 -- what the failures mean
 
--- no pattern, no failure; no argument, no failure
-none-from : (n i : ℕ) (xs : List (List ℕ)) → failuresFrom n i [] xs ≡ replicate n false
-unfolding failuresFrom all
-none-from zero i xs = refl
-none-from (suc n) i [] = ap (λ l. false ∷ l) (none-from n (i + 1) [])
-none-from (suc n) i (a ∷ xs) = ap (λ l. false ∷ l) (none-from n (i + 1) xs)
-
+-- no argument, no failure
 empty-from : (n i : ℕ) (ps : List ArgumentPattern) → failuresFrom n i ps [] ≡ replicate n false
 unfolding failuresFrom
 empty-from zero i ps = refl
 empty-from (suc n) i ps = ap (λ l. false ∷ l) (empty-from n (i + 1) ps)
 
-pub failures-none : (xs : List (List ℕ)) → failures [] xs ≡ replicate 64 false
+none-from : (n i : ℕ) (xs : List (List ℕ)) → failuresFrom n i [] xs ≡ replicate n false
+unfolding failuresFrom all
+none-from zero i xs = refl
+none-from (suc n) i [] = empty-from (suc n) i []
+none-from (suc n) i (a ∷ xs) = ap (λ l. false ∷ l) (none-from n (i + 1) xs)
+
+-- no pattern, no failure
+pub failures-none : (xs : List (List ℕ)) → replicate 64 false ≡ failures [] xs
 unfolding failures
-failures-none xs = none-from 64 1 xs
+failures-none xs = sym (none-from 64 1 xs)
 
 fail-more : (f : ArgumentPattern → Bool) (ps qs : List ArgumentPattern) → not (all f (ps ++ qs)) ≡ not (all f ps) || not (all f qs)
 fail-more f ps qs = ap not (all-append f ps qs) ∙ not-both (all f ps) (all f qs)
 
-more-from : (n i : ℕ) (ps : List ArgumentPattern) (p : ArgumentPattern) (xs : List (List ℕ)) → marked i p xs (failuresFrom n i ps xs) ≡ failuresFrom n i (ps ++ (p ∷ [])) xs
-unfolding failuresFrom marked all
+more-from : (n i : ℕ) (ps : List ArgumentPattern) (p : ArgumentPattern) (xs : List (List ℕ)) → failuresWith i p xs (failuresFrom n i ps xs) ≡ failuresFrom n i (ps ++ (p ∷ [])) xs
+unfolding failuresFrom failuresWith all
 more-from zero i ps p [] = refl
 more-from zero i ps p (a ∷ xs) = refl
 more-from (suc n) i ps p [] = ap (λ l. false ∷ l) (empty-from n (i + 1) ps ∙ sym (empty-from n (i + 1) (ps ++ (p ∷ []))))
@@ -125,36 +134,58 @@ more-from (suc n) i ps p (a ∷ xs) =
     let h : not (all (passes i a) (ps ++ (p ∷ []))) ≡ not (all (passes i a) ps) || not (passes i a p) = fail-more (passes i a) ps (p ∷ []) ∙ rw (both-yes (passes i a p)) in
     rw (h, more-from n (i + 1) ps p xs)
 
--- one more pattern
-pub failures-more : (ps : List ArgumentPattern) (p : ArgumentPattern) (xs : List (List ℕ)) → marked 1 p xs (failures ps xs) ≡ failures (ps ++ (p ∷ [])) xs
-unfolding failures
-failures-more ps p xs = more-from 64 1 ps p xs
+-- a pattern that is no longer than a field
+within-field : (r : Range) (v : List ℕ) → length v ≤ 1024 → patternAt r v ≡ record { positions = r; expansions = expansionsOf Plain v }
+unfolding fieldExpansions
+within-field r v h = rw (le-leb (length v) 1024 h)
 
-same-from : (n : ℕ) → joined (replicate n false) (replicate n false) ≡ replicate n false
-unfolding joined
+-- one more setting of a line, by a value that is no longer than a field
+pub failures-more : (ps : List ArgumentPattern) (v : List ℕ) (s : OptionSetting) (xs : List (List ℕ)) → length v ≤ 1024
+    → failuresAfter v s xs (failures ps xs) ≡ failures (ps ++ settingIn v s .arguments) xs
+unfolding failures
+failures-more ps v (SetId Uid) xs h = rw (append-nil ps)
+failures-more ps v (SetId Euid) xs h = rw (append-nil ps)
+failures-more ps v (SetId Gid) xs h = rw (append-nil ps)
+failures-more ps v (SetId Egid) xs h = rw (append-nil ps)
+failures-more ps v (SetAuth b) xs h = rw (append-nil ps)
+failures-more ps v (SetTimeout m) xs h = rw (append-nil ps)
+failures-more ps v (SetNargs m n) xs h = rw (append-nil ps)
+failures-more ps v (SetArgument m n) xs h = rw (within-field (range m n) v h) (more-from 64 1 ps (record { positions = range m n; expansions = expansionsOf Plain v }) xs)
+failures-more ps v SetShell xs h = rw (append-nil ps)
+
+same-from : (n : ℕ) → eitherFails (replicate n false) (replicate n false) ≡ replicate n false
+unfolding eitherFails
 same-from zero = refl
 same-from (suc n) = ap (λ l. false ∷ l) (same-from n)
 
-joined-from : (n i : ℕ) (ps qs : List ArgumentPattern) (xs : List (List ℕ)) → joined (failuresFrom n i ps xs) (failuresFrom n i qs xs) ≡ failuresFrom n i (ps ++ qs) xs
-unfolding failuresFrom joined
-joined-from zero i ps qs xs = refl
-joined-from (suc n) i ps qs [] = ap (λ l. false ∷ l) (rw (empty-from n (i + 1) ps, empty-from n (i + 1) qs, empty-from n (i + 1) (ps ++ qs)) (same-from n))
-joined-from (suc n) i ps qs (a ∷ xs) = rw (fail-more (passes i a) ps qs, joined-from n (i + 1) ps qs xs)
+either-from : (n i : ℕ) (ps qs : List ArgumentPattern) (xs : List (List ℕ)) → eitherFails (failuresFrom n i ps xs) (failuresFrom n i qs xs) ≡ failuresFrom n i (ps ++ qs) xs
+unfolding failuresFrom eitherFails
+either-from zero i ps qs xs = refl
+either-from (suc n) i ps qs [] = ap (λ l. false ∷ l) (rw (empty-from n (i + 1) ps, empty-from n (i + 1) qs, empty-from n (i + 1) (ps ++ qs)) (same-from n))
+either-from (suc n) i ps qs (a ∷ xs) = rw (fail-more (passes i a) ps qs, either-from n (i + 1) ps qs xs)
 
 -- the patterns in force globally and the entry's own
-pub failures-own : (global own : List ArgumentPattern) (xs : List (List ℕ)) → joined (failures global xs) (failures own xs) ≡ failures (inForce global own) xs
+pub failures-own : (global own : List ArgumentPattern) (xs : List (List ℕ)) → eitherFails (failures global xs) (failures own xs) ≡ failures (inForce global own) xs
 unfolding failures inForce
-failures-own global own xs = joined-from 64 1 global own xs
+failures-own global own xs = either-from 64 1 global own xs
 
-some-from : (n i : ℕ) (ps : List ArgumentPattern) (xs : List (List ℕ)) → length xs ≤ n → any (λ f. f) (failuresFrom n i ps xs) ≡ not (argumentsFrom i ps xs)
+some-from : (n i : ℕ) (ps : List ArgumentPattern) (xs : List (List ℕ)) → length xs ≤ n → argumentsFrom i ps xs ≡ not (any (λ f. f) (failuresFrom n i ps xs))
 unfolding failuresFrom argumentsFrom any
 some-from zero i ps [] h = refl
 some-from zero i ps (a ∷ xs) h = absurd (omega arith)
 some-from (suc n) i ps [] h = some-from n (i + 1) ps [] (omega arith)
-some-from (suc n) i ps (a ∷ xs) h =
-    rw (some-from n (i + 1) ps xs (omega arith)) (sym (not-both (all (passes i a) ps) (argumentsFrom (i + 1) ps xs)))
+some-from (suc n) i ps (a ∷ xs) h = rw (some-from n (i + 1) ps xs (omega arith)) (go (all (passes i a) ps) (any (λ f. f) (failuresFrom n (i + 1) ps xs)))
+  where
+    go : (a b : Bool) → a && not b ≡ not (not a || b)
+    go true b = refl
+    go false b = refl
 
--- some argument fails exactly if they do not all pass
-pub failures-some : (ps : List ArgumentPattern) (xs : List (List ℕ)) → length xs ≤ 64 → any (λ f. f) (failures ps xs) ≡ not (argumentsPass ps xs)
+-- all arguments pass exactly if none fails
+pub arguments-pass : (ps : List ArgumentPattern) (xs : List (List ℕ)) → length xs ≤ 64 → argumentsPass ps xs ≡ not (any (λ f. f) (failures ps xs))
 unfolding failures argumentsPass
-failures-some ps xs h = some-from 64 1 ps xs h
+arguments-pass ps xs h = some-from 64 1 ps xs h
+
+-- so what is kept of the patterns in force globally and of the entry's own says whether the arguments pass
+pub arguments-in-force : (global own : List ArgumentPattern) (xs : List (List ℕ)) → length xs ≤ 64
+    → argumentsPass (inForce global own) xs ≡ not (any (λ f. f) (eitherFails (failures global xs) (failures own xs)))
+arguments-in-force global own xs h = rw (failures-own global own xs) (arguments-pass (inForce global own) xs h)

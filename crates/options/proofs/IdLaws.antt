@@ -1,45 +1,51 @@
 -- Names in options, by value. Assumes nothing.
 use mathlib.Core.Path.{_≡_, refl, sym, ap, _∙_}
-use mathlib.Core.Bool.{true, false, not, _&&_}
+use mathlib.Core.Bool.{Bool, true, false, not, cond, _&&_}
 use mathlib.Core.List.{List, [], _∷_}
-use mathlib.Core.Option.{some}
+use mathlib.Core.Option.{Option, some, none, orElse}
 use Prim.Native.Nat.{ℕ, _+_, _≤_, _<_, min}
 use native.Mathlib.Omega.{arith}
 use native.Mathlib.Numerals.{add-one}
+use borrow.Author.Tests.{not-true, not-false}
 use lib.ListN.{length, take, getD, set}
 use lib.Seq.{take-all, take-suc, take-suc-set}
 use Rattle.text.specs.Bytes.{bytes}
 use Rattle.text.specs.Class.{nameByte}
-use Rattle.text.specs.Lists.{all, firstOf, null}
+use Rattle.text.specs.Lists.{all, null}
 use Rattle.text.specs.Slice.{same}
 use Rattle.text.specs.Buffer.{Wrote}
 use Rattle.text.specs.declared.buffer.Filled.{Filled}
 use Rattle.text.proofs.Laws.{take-min, take-most}
 use Rattle.options.specs.declared.ids.IdName.{IdName}
 use Rattle.options.specs.Options.{idOr}
-use Rattle.options.specs.Read.{isId}
-use Rattle.options.specs.Values.{idIn}
+use Rattle.options.specs.Read.{idLimit, isId}
+use Rattle.options.specs.Contract.{idIn}
 
 module _ (a b : IdName) where
-  pub id-given : a .given ≡ true → idIn a ≡ firstOf (idIn a) (idIn b)
-  unfolding idIn
+  pub id-given : a .given ≡ true → idIn a ≡ orElse (idIn a) (idIn b)
+  unfolding idIn orElse
   id-given e = rw e
 
-  pub id-else : a .given ≡ false → idIn b ≡ firstOf (idIn a) (idIn b)
-  unfolding idIn
+  pub id-else : a .given ≡ false → idIn b ≡ orElse (idIn a) (idIn b)
+  unfolding idIn orElse
   id-else e = rw e
 
 -- one more byte copied
 pub copied : (a s : List ℕ) (i : ℕ) → i < length s → i < length a → take i a ≡ take i s → take (i + 1) (set a i (getD s i 0)) ≡ take (i + 1) s
 copied a s i h g e = rw (add-one, take-suc-set a i (getD s i 0) g, take-suc s i 0 h, e)
 
--- the copy of a value
-pub held : (a v : List ℕ) (size i : ℕ) → size ≡ min (length v) 64 → i ≤ size → size ≤ i → take i a ≡ take i v → idIn (record { bytes = a; size = size; given = true }) ≡ some (take 64 v)
-unfolding idIn
-held a v size i e h k p =
-    let z : size ≡ i = omega arith in
-    let q : take size a ≡ take size v = rw z p in
-    ap some (q ∙ rw e (take-most 64 v))
+-- the copy of a value that is given, and none of one that is not
+module _ (given : Bool) (v : List ℕ) where
+  pub held : (a : List ℕ) (size i : ℕ) → not given ≡ false → size ≡ min (length v) idLimit → i ≤ size → size ≤ i → take i a ≡ take i v
+      → idIn (record { bytes = a; size = size; given = true }) ≡ cond given (some (take idLimit v)) none
+  unfolding idIn
+  held a size i g e h k p =
+      let z : size ≡ i = omega arith in
+      let q : take size a ≡ take size v = rw z p in
+      rw (not-false given g) (ap some (q ∙ rw e (take-most idLimit v)))
+
+  pub unheld : {o : Option (List ℕ)} → not given ≡ true → o ≡ none → o ≡ cond given (some (take idLimit v)) none
+  unheld g e = rw (not-true given g) e
 
 -- a name put into a buffer
 module _ {old new : List ℕ} {n : ℕ} {r : Filled} (a : IdName) (l : length (a .bytes) ≡ 64) (size : ℕ) where

@@ -1,5 +1,4 @@
 pub mod SpanLaws
-pub mod NameLaws
 pub mod TimeoutLaws
 pub mod IdLaws
 pub mod ReadLaws

@@ -1,169 +1,189 @@
 -- Reading one option: one law for each answer. Assumes nothing.
 use mathlib.Core.Path.{_≡_, refl, sym, ap, _∙_}
-use mathlib.Core.Bool.{Bool, true, false, not, _&&_}
-use mathlib.Core.List.{List}
-use mathlib.Core.Option.{Option, none, some}
+use mathlib.Core.Bool.{Bool, true, false, _&&_}
+use mathlib.Core.List.{List, [], _∷_}
+use mathlib.Core.Option.{Option, none, some, Option·map}
 use Prim.Native.Nat.{ℕ, _+_, _-_, _≤_, _<_, min}
+use Prim.Native.String.{String}
 use native.Mathlib.Omega.{arith}
 use native.Mathlib.Decide.{decLe}
-use borrow.Author.Tests.{lt-ltb, le-ltb, le-leb, lt-leb}
+use borrow.Author.Tests.{le-leb, lt-leb}
 use lib.Dec.{leb}
-use lib.IntN.{ℤ}
-use lib.ListN.{length, take, drop, length-drop}
+use lib.ListN.{length, take, drop}
 use lib.Seq.{take-all}
 use Rattle.text.specs.Bytes.{bytes}
-use Rattle.text.specs.Slice.{same, findByte}
-use Rattle.text.proofs.Laws.{part-rest}
-use Rattle.pattern.specs.Tree.{Tree, treeOf, depth, number, fits}
-use Rattle.pattern.specs.Whole.{shapeIn, sizeOf, shapeOf}
-use Rattle.pattern.specs.declared.Kind.the-variants.{Plain}
-use Rattle.pattern.specs.declared.Pattern.{Pattern}
-use Rattle.pattern.specs.declared.Shape.{Shape}
-use Rattle.pattern.specs.declared.Shape.the-variants.{Malformed, Read}
-use Rattle.fault.specs.Fault.{Reading, fault, value, unless, needed}
+use Rattle.text.specs.Class.{Range, range}
+use Rattle.text.specs.Slice.{same, startsWith, findByte}
+use Rattle.text.specs.declared.slice.Found.the-variants.{At, Nothing as Missing}
+use Rattle.text.proofs.Laws.{part-rest, both-no, clash}
+use Rattle.text.proofs.Lists.{parted-found, parted-missing}
+use Rattle.text.proofs.Slices.{same-true}
+use Rattle.fault.specs.Fault.{Reading, fault, value, needed, require, andThen}
 use Rattle.fault.specs.declared.Cause.{Cause}
+use Rattle.fault.specs.declared.Cause.the-variants.{IdLength, OptionValue, PatternKind, Pattern as BadPattern, PatternSize}
+use Rattle.pattern.specs.declared.Syntax.the-variants.{Plain}
+use Rattle.pattern.specs.declared.Expanded.{Expanded}
+use Rattle.pattern.specs.declared.Expanded.the-variants.{Fault as ExpandedFault, Number}
+use Rattle.pattern.specs.Tree.{expanded}
+use Rattle.pattern.specs.Whole.{orNone, expansionsOf}
+use Rattle.pattern.specs.Contract.{expandedIn}
+use Rattle.options.specs.Read.{Setting, setId, setAuth, setNargs, setShell, setArgument, idLimit, lastPosition, mostNargs, isId, idOf, authOf, timeoutOf, numberRange, nargsOf, patternsOf, argumentOf, optionNamed, optionOf}
+use Rattle.options.specs.Contract.{spanIn, valueIn, readIn}
 use Rattle.options.specs.declared.Id.{Id}
-use Rattle.options.specs.declared.timeout.Timeout.{Timeout}
-use Rattle.options.specs.declared.timeout.Timeout.the-variants.{Unset, Minutes}
+use Rattle.options.specs.declared.Id.the-variants.{Uid, Euid, Gid, Egid}
+use Rattle.options.specs.declared.read.OptionRead.{OptionRead}
 use Rattle.options.specs.declared.span.Span.{Span}
 use Rattle.options.specs.declared.span.Span.the-variants.{Nothing, Between}
-use Rattle.options.specs.Options.{Range, range}
-use Rattle.options.specs.Read.{Setting, setId, setAuth, setTimeout, setNargs, setArgument, setShell, argumentOf, isId, idOf, authOf, timeoutOf, rangeOf, nargsOf, kindOf, nameOf, named, optionOf}
-use Rattle.options.specs.Arguments.{patternAt}
-use Rattle.options.specs.declared.name.OptionName.{OptionName}
-use Rattle.options.specs.Values.{timeoutRead, spanIn, nameIn}
-use Rattle.text.proofs.Lists.{parted-found, parted-missing}
-use mir.Syntax.{w32}
-use mir.Val.{SFits, toZ, ofZ}
-use mir.ValLaws.{toZ-ofZ}
-use Rattle.text.specs.declared.slice.Found.the-variants.{At, Nothing as Missing}
-use Rattle.fault.specs.declared.Cause.the-variants.{IdLength, OptionValue, PatternKind, Pattern as BadPattern, PatternSize}
 
--- a value that stands in t from `at` on; the code looks at `&t[at..]`
-module _ (t : List ℕ) (at : ℕ) where
-  abbrev rest : List ℕ
-  rest = take (length t - at) (drop at t)
-
+module _ (v : List ℕ) where
   module _ (i : Id) where
-    pub id-long : 64 < length t - at → some (fault IdLength) ≡ some (idOf i (drop at t))
+    pub id-long : idLimit < length v → some (fault IdLength) ≡ some (idOf i v)
     unfolding idOf
-    id-long h =
-        let k : 64 < length (drop at t) = rw length-drop (omega arith) in
-        rw (lt-ltb 64 (length (drop at t)) k)
+    id-long h = rw (lt-leb (length v) idLimit h)
 
-    module _ (h : length t - at ≤ 64) where
-      short : length (drop at t) ≤ 64
-      short = rw length-drop (omega arith)
-
-      pub id-good : isId rest ≡ true → some (value (setId i (take 64 (drop at t)))) ≡ some (idOf i (drop at t))
+    module _ (h : length v ≤ idLimit) where
+      pub id-good : isId v ≡ true → some (value (setId i (take idLimit v))) ≡ some (idOf i v)
       unfolding idOf
-      id-good e =
-          let q : isId (drop at t) ≡ true = rw (part-rest at t) at e in
-          rw (le-ltb 64 (length (drop at t)) short, q, take-all 64 (drop at t) short)
+      id-good e = rw (le-leb (length v) idLimit h, e, take-all idLimit v h)
 
-      pub id-bad : isId rest ≡ false → some (fault OptionValue) ≡ some (idOf i (drop at t))
+      pub id-bad : isId v ≡ false → some (fault OptionValue) ≡ some (idOf i v)
       unfolding idOf
-      id-bad e =
-          let q : isId (drop at t) ≡ false = rw (part-rest at t) at e in
-          rw (le-ltb 64 (length (drop at t)) short, q)
+      id-bad e = rw (le-leb (length v) idLimit h, e)
 
-  pub auth-yes : same rest (bytes "y") ≡ true → some (value (setAuth true)) ≡ some (authOf (drop at t))
+  pub auth-yes : same v (bytes "y") ≡ true → some (value (setAuth true)) ≡ some (authOf v)
   unfolding authOf
-  auth-yes e = let q : same (drop at t) (bytes "y") ≡ true = rw (part-rest at t) at e in rw q
+  auth-yes e = rw e
 
-  module _ (d : same rest (bytes "y") ≡ false) where
-    pub auth-no : same rest (bytes "n") ≡ true → some (value (setAuth false)) ≡ some (authOf (drop at t))
+  module _ (d : same v (bytes "y") ≡ false) where
+    pub auth-no : same v (bytes "n") ≡ true → some (value (setAuth false)) ≡ some (authOf v)
     unfolding authOf
-    auth-no e =
-        let p : same (drop at t) (bytes "y") ≡ false = rw (part-rest at t) at d in
-        let q : same (drop at t) (bytes "n") ≡ true = rw (part-rest at t) at e in
-        rw (p, q)
+    auth-no e = rw (d, e)
 
-    pub auth-bad : same rest (bytes "n") ≡ false → some (fault OptionValue) ≡ some (authOf (drop at t))
+    pub auth-bad : same v (bytes "n") ≡ false → some (fault OptionValue) ≡ some (authOf v)
     unfolding authOf
-    auth-bad e =
-        let p : same (drop at t) (bytes "y") ≡ false = rw (part-rest at t) at d in
-        let q : same (drop at t) (bytes "n") ≡ false = rw (part-rest at t) at e in
-        rw (p, q)
+    auth-bad e = rw (d, e)
 
-  module _ {x : Timeout} (e : timeoutRead x ≡ timeoutOf rest) where
-    pub timeout-bad : x ≡ Unset → some (fault OptionValue) ≡ some (timeoutOf (drop at t))
-    timeout-bad q = ap some (rw q at (rw (part-rest at t) at e))
+  module _ {x : Span} (e : spanIn x ≡ numberRange 0 mostNargs v) where
+    pub nargs-bad : x ≡ Nothing → some (fault OptionValue) ≡ some (nargsOf v)
+    nargs-bad q = let p : none ≡ numberRange 0 mostNargs v = rw q at e in rw (sym p)
 
-    pub timeout-good : {m : ℤ} → SFits w32 m → x ≡ Minutes m → some (value (setTimeout (toZ w32 (ofZ w32 m)))) ≡ some (timeoutOf (drop at t))
-    timeout-good {m} f q = let p : value (setTimeout m) ≡ timeoutOf (drop at t) = rw q at (rw (part-rest at t) at e) in rw (toZ-ofZ w32 m f) (ap some p)
+    pub nargs-good : {m n : ℕ} → x ≡ Between m n → some (value (setNargs (range m n))) ≡ some (nargsOf v)
+    nargs-good {m} {n} q = let p : some (range m n) ≡ numberRange 0 mostNargs v = rw q at e in rw (sym p)
 
-  module _ {x : Span} (e : spanIn x ≡ rangeOf 0 64 rest) where
-    pub nargs-bad : x ≡ Nothing → some (fault OptionValue) ≡ some (nargsOf (drop at t))
-    nargs-bad q = let p : none ≡ rangeOf 0 64 (drop at t) = rw q at (rw (part-rest at t) at e) in rw (sym p)
+  pub patterns-shell : same v (bytes "shell") ≡ true → some (value setShell) ≡ some (patternsOf v)
+  patterns-shell e = rw e
 
-    pub nargs-good : {m n : ℕ} → x ≡ Between m n → some (value (setNargs (range m n))) ≡ some (nargsOf (drop at t))
-    nargs-good {m} {n} q = let p : some (range m n) ≡ rangeOf 0 64 (drop at t) = rw q at (rw (part-rest at t) at e) in rw (sym p)
+  pub patterns-other : same v (bytes "shell") ≡ false → some (fault PatternKind) ≡ some (patternsOf v)
+  patterns-other e = rw e
 
-  pub kind-shell : same rest (bytes "shell") ≡ true → some (value setShell) ≡ some (kindOf (drop at t))
-  kind-shell e = let q : same (drop at t) (bytes "shell") ≡ true = rw (part-rest at t) at e in rw q
+-- what the answer of a pattern's reading says of its expansions
+module _ (v : List ℕ) (r : Expanded) (h : expandedIn r ≡ andThen (expanded Plain v) (λ es. value (length es))) where
+  pub expanded-fault : {c : Cause} → r ≡ ExpandedFault c → expanded Plain v ≡ fault c
+  expanded-fault {c} e = go (expanded Plain v) (sym (ap expandedIn e) ∙ h)
+    where
+      go : (o : Reading Cause (List (List ℕ))) → fault c ≡ andThen o (λ es. value (length es)) → o ≡ fault c
+      go (fault d) q = cc
+      go (value es) q = clash cc
 
-  pub kind-other : same rest (bytes "shell") ≡ false → some (fault PatternKind) ≡ some (kindOf (drop at t))
-  kind-other e = let q : same (drop at t) (bytes "shell") ≡ false = rw (part-rest at t) at e in rw q
+  pub expanded-good : {k : ℕ} → r ≡ Number k → expanded Plain v ≡ value (expansionsOf Plain v)
+  unfolding expansionsOf
+  expanded-good {k} e = go (expanded Plain v) (sym (ap expandedIn e) ∙ h)
+    where
+      go : (o : Reading Cause (List (List ℕ))) → value k ≡ andThen o (λ es. value (length es)) → o ≡ value (orNone o)
+      go (fault d) q = clash cc
+      go (value es) q = refl
 
--- a number that was capped at 65 passes 64 as it did
-capped : (n : ℕ) → leb (min n 65) 64 ≡ leb n 64
-capped n = elim (decLe n 64) [ yes h ↦ rw (le-leb n 64 h, le-leb (min n 65) 64 (omega arith)) | no h ↦ go (omega arith) (omega arith) ]
-  where
-    go : 64 < n → 64 < min n 65 → leb (min n 65) 64 ≡ leb n 64
-    go h k = rw (lt-leb n 64 h, lt-leb (min n 65) 64 k)
+-- a pattern for positions as written
+module _ (v s : List ℕ) where
+  abbrev argument : Option (Reading Cause Setting)
+  argument = Option·map (λ r. argumentOf r v) (numberRange 1 lastPosition s)
 
--- the pattern of an argument, by its shape
-module _ (v : Reading Cause Setting) where
-  abbrev fitting : Tree → Reading Cause Setting
-  fitting t = unless (not (fits t)) PatternSize v
+  pub argument-none : (x : Span) → spanIn x ≡ numberRange 1 lastPosition s → x ≡ Nothing → none ≡ argument
+  argument-none x e q = let p : none ≡ numberRange 1 lastPosition s = rw q at e in rw (sym p)
 
-  shape-bad : (o : Option Tree) → shapeIn o ≡ Malformed → fault BadPattern ≡ needed BadPattern o fitting
-  shape-bad none e = refl
-  shape-bad (some t) e = cc
+  module _ (x : Span) (e : spanIn x ≡ numberRange 1 lastPosition s) {m n : ℕ} (q : x ≡ Between m n) where
+    argument-is : {o : Reading Cause Setting} → argumentOf (range m n) v ≡ o → some o ≡ argument
+    argument-is h = let p : some (range m n) ≡ numberRange 1 lastPosition s = rw q at e in rw (sym p, h)
 
-  size-told : (t : Tree) (p : Pattern) → shapeIn (some t) ≡ Read p → leb (p .depth) 4 && leb (p .number) 64 ≡ fits t
-  unfolding sizeOf fits
-  size-told t p e =
-      let d : depth t ≡ p .depth = cc in
-      let n : min (number t) 65 ≡ p .number = cc in
-      rw (← d, ← n, capped (number t))
+    module _ (r : Expanded) (h : expandedIn r ≡ andThen (expanded Plain v) (λ es. value (length es))) where
+      pub argument-fault : {c : Cause} → r ≡ ExpandedFault c → some (fault c) ≡ argument
+      unfolding argumentOf
+      argument-fault f = argument-is (rw (expanded-fault v r h f))
 
-  shape-good : (o : Option Tree) (p : Pattern) → shapeIn o ≡ Read p → leb (p .depth) 4 && leb (p .number) 64 ≡ true
-      → v ≡ needed BadPattern o fitting
-  shape-good none p e f = cc
-  shape-good (some t) p e f = let q : fits t ≡ true = sym (size-told t p e) ∙ f in rw q
+      pub argument-good : {k : ℕ} → r ≡ Number k → some (value (setArgument (range m n) (expansionsOf Plain v))) ≡ argument
+      unfolding argumentOf
+      argument-good f = argument-is (rw (expanded-good v r h f))
 
-  shape-large : (o : Option Tree) (p : Pattern) → shapeIn o ≡ Read p → leb (p .depth) 4 && leb (p .number) 64 ≡ false
-      → fault PatternSize ≡ needed BadPattern o fitting
-  shape-large none p e f = cc
-  shape-large (some t) p e f = let q : fits t ≡ false = sym (size-told t p e) ∙ f in rw q
+-- the name is none of these
+abbrev pub Other : List ℕ → List String → Type 0
+Other n [] = Unit {0}
+Other n (m ∷ ms) = (same n (bytes m) ≡ false) × Other n ms
 
-module _ (t : List ℕ) (at : ℕ) (r : Range) {x : Shape} (e : x ≡ shapeOf Plain (take (length t - at) (drop at t))) where
-  shaped : x ≡ shapeIn (treeOf Plain (drop at t))
-  unfolding shapeOf
-  shaped = rw (part-rest at t) at e
+-- an option by its name, with the names that it is not
+module _ (g : Bool) (n v : List ℕ) {r : Option (Reading Cause Setting)} where
+  pub named-uid : same n (bytes "uid") ≡ true → r ≡ some (idOf Uid v) → r ≡ optionNamed g n v
+  unfolding optionNamed
+  named-uid t e = cc
 
-  pub argument-bad : x ≡ Malformed → some (fault BadPattern) ≡ some (argumentOf r (drop at t))
-  unfolding argumentOf
-  argument-bad q = ap some (shape-bad (value (setArgument (patternAt r (drop at t)))) (treeOf Plain (drop at t)) (sym shaped ∙ q))
+  pub named-euid : Other n ("uid" ∷ []) → same n (bytes "euid") ≡ true → r ≡ some (idOf Euid v) → r ≡ optionNamed g n v
+  unfolding optionNamed
+  named-euid d t e = cc
 
-  pub argument-good : {p : Pattern} → x ≡ Read p → leb (p .depth) 4 && leb (p .number) 64 ≡ true
-      → some (value (setArgument (patternAt r (drop at t)))) ≡ some (argumentOf r (drop at t))
-  unfolding argumentOf
-  argument-good {p} q f = ap some (shape-good (value (setArgument (patternAt r (drop at t)))) (treeOf Plain (drop at t)) p (sym shaped ∙ q) f)
+  pub named-gid : Other n ("euid" ∷ "uid" ∷ []) → same n (bytes "gid") ≡ true → r ≡ some (idOf Gid v) → r ≡ optionNamed g n v
+  unfolding optionNamed
+  named-gid d t e = cc
 
-  pub argument-large : {p : Pattern} → x ≡ Read p → leb (p .depth) 4 && leb (p .number) 64 ≡ false → some (fault PatternSize) ≡ some (argumentOf r (drop at t))
-  unfolding argumentOf
-  argument-large {p} q f = ap some (shape-large (value (setArgument (patternAt r (drop at t)))) (treeOf Plain (drop at t)) p (sym shaped ∙ q) f)
+  pub named-egid : Other n ("gid" ∷ "euid" ∷ "uid" ∷ []) → same n (bytes "egid") ≡ true → r ≡ some (idOf Egid v) → r ≡ optionNamed g n v
+  unfolding optionNamed
+  named-egid d t e = cc
 
--- a field's text, by its name
-module _ (global : Bool) (t : List ℕ) where
-  pub option-none : findByte 61 0 t ≡ Missing → none ≡ optionOf global t
-  unfolding optionOf
-  option-none e = rw (parted-missing 61 t e)
+  pub named-auth : Other n ("egid" ∷ "gid" ∷ "euid" ∷ "uid" ∷ []) → same n (bytes "auth") ≡ true → r ≡ some (authOf v) → r ≡ optionNamed g n v
+  unfolding optionNamed
+  named-auth d t e = cc
 
-  pub option-named : {i : ℕ} {x k : OptionName} {r : Option (Reading Cause Setting)}
-      → findByte 61 0 t ≡ At i → nameIn x ≡ nameOf global (take i t) → x ≡ k → r ≡ named (nameIn k) (drop (i + 1) t) → r ≡ optionOf global t
-  unfolding optionOf
-  option-named {i} {x} {k} e n q h = rw (parted-found 61 t i e, ← n, q) h
+  pub named-timeout : Other n ("auth" ∷ "egid" ∷ "gid" ∷ "euid" ∷ "uid" ∷ []) → same n (bytes "timeout") ≡ true → r ≡ some (timeoutOf v) → r ≡ optionNamed g n v
+  unfolding optionNamed
+  named-timeout d t e = cc
+
+  pub named-nargs : Other n ("timeout" ∷ "auth" ∷ "egid" ∷ "gid" ∷ "euid" ∷ "uid" ∷ []) → same n (bytes "nargs") ≡ true → r ≡ some (nargsOf v) → r ≡ optionNamed g n v
+  unfolding optionNamed
+  named-nargs d t e = cc
+
+  module _ (d : Other n ("nargs" ∷ "timeout" ∷ "auth" ∷ "egid" ∷ "gid" ∷ "euid" ∷ "uid" ∷ [])) where
+    pub named-patterns : same n (bytes "patterns") ≡ true → g ≡ true → r ≡ some (patternsOf v) → r ≡ optionNamed g n v
+    unfolding optionNamed
+    named-patterns t h e = cc
+
+    module _ (p : same n (bytes "patterns") ≡ false) where
+      pub named-argument : startsWith (bytes "arg") n ≡ true → r ≡ Option·map (λ x. argumentOf x v) (numberRange 1 lastPosition (take (length n - 3) (drop 3 n))) → r ≡ optionNamed g n v
+      unfolding optionNamed
+      named-argument t e =
+          let q : r ≡ Option·map (λ x. argumentOf x v) (numberRange 1 lastPosition (drop 3 n)) = rw (part-rest 3 n) at e in
+          let k : g && same n (bytes "patterns") ≡ false = rw p (both-no g) in cc
+
+      pub named-none : startsWith (bytes "arg") n ≡ false → r ≡ none → r ≡ optionNamed g n v
+      unfolding optionNamed
+      named-none t e = let q : g && same n (bytes "patterns") ≡ false = rw p (both-no g) in cc
+
+-- `patterns` on an entry is no option
+pub named-not-here : (g : Bool) (n v : List ℕ) → same n (bytes "patterns") ≡ true → g ≡ false → none ≡ optionNamed g n v
+unfolding optionNamed same startsWith
+named-not-here g n v t e = rw (same-true n (bytes "patterns") t, e)
+
+-- a field's text, by its first `=`
+pub option-none : (g : Bool) (t : List ℕ) → findByte 61 0 t ≡ Missing → none ≡ optionOf g t
+unfolding optionOf
+option-none g t e = rw (parted-missing 61 t e)
+
+pub value-none : (t : List ℕ) → findByte 61 0 t ≡ Missing → [] ≡ valueIn t
+unfolding valueIn
+value-none t e = rw (parted-missing 61 t e)
+
+module _ (t : List ℕ) {i : ℕ} (e : findByte 61 0 t ≡ At i) where
+  pub value-found : take (length t - (i + 1)) (drop (i + 1) t) ≡ valueIn t
+  unfolding valueIn
+  value-found = rw (part-rest (i + 1) t, parted-found 61 t i e)
+
+  pub option-found : (g : Bool) (x : OptionRead) → readIn (take (length t - (i + 1)) (drop (i + 1) t)) x ≡ optionNamed g (take i t) (take (length t - (i + 1)) (drop (i + 1) t)) → readIn (valueIn t) x ≡ optionOf g t
+  unfolding optionOf valueIn
+  option-found g x h = rw (parted-found 61 t i e) (rw (part-rest (i + 1) t) at h)

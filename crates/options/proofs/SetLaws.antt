@@ -1,78 +1,126 @@
 -- Sets of options laid over each other. Assumes nothing.
 use mathlib.Core.Path.{_≡_, refl}
-use mathlib.Core.Bool.{Bool}
-use mathlib.Core.Option.{Option, none, some}
+use mathlib.Core.Bool.{Bool, cond}
+use mathlib.Core.List.{List, []}
+use mathlib.Core.Option.{Option, none, some, orElse}
 use Prim.Native.Nat.{ℕ}
-use lib.IntN.{ℤ, pos}
-use Rattle.text.specs.Lists.{firstOf}
-use Rattle.text.proofs.Lists.{first-assoc, first-none}
-use Rattle.options.specs.Options.{Options, noIds, noOptions, over, range, timeoutOr}
-use Rattle.options.specs.Values.{idIn, authIn, timeoutIn, spanIn, optionsIn}
-use Rattle.options.specs.declared.ids.IdName.{IdName}
-use Rattle.question.specs.declared.LastAuthentication.{LastAuthentication}
+use lib.Dec.{eqb}
+use lib.IntN.{ℤ}
+use lib.ListN.{take}
+use Rattle.text.specs.Class.{range}
 use Rattle.question.specs.Password.{passwordNeeded}
-use Rattle.options.specs.declared.set.Auth.{Auth}
+use Rattle.question.specs.declared.LastAuthentication.{LastAuthentication}
+use Rattle.options.specs.Options.{Options, noOptions, over}
+use Rattle.options.specs.Read.{Setting, idLimit, setId}
+use Rattle.options.specs.Contract.{idIn, authIn, timeoutIn, spanIn, optionsIn, idAt, settingIn, PartOf}
+use Rattle.options.specs.declared.Id.{Id}
+use Rattle.options.specs.declared.Id.the-variants.{Uid, Euid, Gid, Egid}
+use Rattle.options.specs.declared.read.OptionSetting.{OptionSetting}
+use Rattle.options.specs.declared.read.OptionSetting.the-variants.{SetId, SetAuth, SetTimeout, SetNargs, SetArgument, SetShell}
+use Rattle.options.specs.declared.set.Auth.the-variants.{Unset}
 use Rattle.options.specs.declared.set.OptionSet.{OptionSet}
-use Rattle.options.specs.declared.timeout.Timeout.{Timeout}
+use Rattle.options.specs.declared.set.Part.{Part}
 use Rattle.options.specs.declared.span.Span.{Span}
-use Rattle.options.specs.declared.span.Span.the-variants.{Between}
+use Rattle.options.specs.declared.span.Span.the-variants.{Nothing, Between}
+use Rattle.options.specs.declared.timeout.Timeout.{Timeout}
+use Rattle.options.specs.declared.timeout.Timeout.the-variants.{Unset as NoTimeout, Minutes}
 use mir.Syntax.{w32}
 use mir.Val.{SFits, toZ, ofZ}
 use mir.ValLaws.{toZ-ofZ}
-use Rattle.options.specs.declared.timeout.Timeout.the-variants.{Unset as NoTimeout, Minutes}
 
-first-same : {A : Type 0} (a : Option A) → firstOf a a ≡ a
-first-same none = refl
-first-same (some x) = refl
+module _ {A : Type 0} where
+  else-assoc : (a b c : Option A) → orElse (orElse a b) c ≡ orElse a (orElse b c)
+  unfolding orElse
+  else-assoc none b c = refl
+  else-assoc (some x) b c = refl
+
+  else-none : (a : Option A) → orElse a none ≡ a
+  unfolding orElse
+  else-none none = refl
+  else-none (some x) = refl
+
+  else-same : (a : Option A) → orElse a a ≡ a
+  unfolding orElse
+  else-same none = refl
+  else-same (some x) = refl
 
 -- how the options are grouped does not matter
 pub over-assoc : (a b c : Options) → over (over a b) c ≡ over a (over b c)
 unfolding over
-over-assoc a b c = simp first-assoc
+over-assoc a b c = simp else-assoc
 
 -- the empty set does nothing on either side
 pub none-over : (a : Options) → over noOptions a ≡ a
-unfolding over noOptions
+unfolding over noOptions orElse
 none-over a = refl
 
 pub over-none : (a : Options) → over a noOptions ≡ a
 unfolding over noOptions
-over-none a = simp first-none
+over-none a = simp else-none
 
 -- a set laid over itself gives it back
 pub over-same : (a : Options) → over a a ≡ a
 unfolding over
-over-same a = simp first-same
+over-same a = simp else-same
 
 -- the same of the sets by value
-pub unset-ids : (u : IdName) (a : Auth) (t : Timeout) (n : Span) → idIn u ≡ none
-    → optionsIn (record { uid = u; euid = u; gid = u; egid = u; auth = a; timeout = t; nargs = n }) ≡ noIds (authIn a) (timeoutIn t) (spanIn n)
-unfolding optionsIn
-unset-ids u a t n p = rw p
-
 module _ (a b o : OptionSet) where
-  pub set-over : idIn (o .uid) ≡ firstOf (idIn (a .uid)) (idIn (b .uid)) → idIn (o .euid) ≡ firstOf (idIn (a .euid)) (idIn (b .euid))
-      → idIn (o .gid) ≡ firstOf (idIn (a .gid)) (idIn (b .gid)) → idIn (o .egid) ≡ firstOf (idIn (a .egid)) (idIn (b .egid))
-      → authIn (o .auth) ≡ firstOf (authIn (a .auth)) (authIn (b .auth)) → timeoutIn (o .timeout) ≡ firstOf (timeoutIn (a .timeout)) (timeoutIn (b .timeout))
-      → spanIn (o .nargs) ≡ firstOf (spanIn (a .nargs)) (spanIn (b .nargs)) → optionsIn o ≡ over (optionsIn a) (optionsIn b)
+  pub set-over : idIn (o .uid) ≡ orElse (idIn (a .uid)) (idIn (b .uid)) → idIn (o .euid) ≡ orElse (idIn (a .euid)) (idIn (b .euid))
+      → idIn (o .gid) ≡ orElse (idIn (a .gid)) (idIn (b .gid)) → idIn (o .egid) ≡ orElse (idIn (a .egid)) (idIn (b .egid))
+      → authIn (o .auth) ≡ orElse (authIn (a .auth)) (authIn (b .auth)) → timeoutIn (o .timeout) ≡ orElse (timeoutIn (a .timeout)) (timeoutIn (b .timeout))
+      → spanIn (o .nargs) ≡ orElse (spanIn (a .nargs)) (spanIn (b .nargs)) → optionsIn o ≡ over (optionsIn a) (optionsIn b)
   unfolding optionsIn over
   set-over p q r s t u v = cc
 
-pub span-kept : (a b : Span) {m n : ℕ} → a ≡ Between m n → some (range m n) ≡ firstOf (spanIn a) (spanIn b)
+pub span-kept : (a b : Span) {m n : ℕ} → a ≡ Between m n → some (range m n) ≡ orElse (spanIn a) (spanIn b)
+unfolding orElse
 span-kept a b e = rw e
 
 module _ (a b : Timeout) {m : ℤ} (f : SFits w32 m) (e : a ≡ Minutes m) where
-  pub timeout-kept : some (toZ w32 (ofZ w32 m)) ≡ firstOf (timeoutIn a) (timeoutIn b)
+  pub timeout-kept : some (toZ w32 (ofZ w32 m)) ≡ orElse (timeoutIn a) (timeoutIn b)
+  unfolding orElse
   timeout-kept = rw (e, toZ-ofZ w32 m f)
-
-pub timeout-only : {m : ℤ} → SFits w32 m → noIds none (some (toZ w32 (ofZ w32 m))) none ≡ noIds none (some m) none
-timeout-only {m} f = rw (toZ-ofZ w32 m f)
-
-pub timeout-set : (a : Timeout) {m : ℤ} (f : SFits w32 m) (e : a ≡ Minutes m) → toZ w32 (ofZ w32 m) ≡ timeoutOr (timeoutIn a)
-timeout-set a {m} f e = rw (e, toZ-ofZ w32 m f)
-
-pub timeout-unset : (a : Timeout) → a ≡ NoTimeout → pos 0 ≡ timeoutOr (timeoutIn a)
-timeout-unset a e = rw e
 
 pub password-of : {a b r : Bool} {t u : ℤ} (last : LastAuthentication) → r ≡ passwordNeeded a t last → a ≡ b → t ≡ u → r ≡ passwordNeeded b u last
 password-of last h e f = rw (← e, ← f) h
+
+-- one of the ids
+pub id-of : {i k : Id} (o : Options) {x : Option (List ℕ)} → i ≡ k → x ≡ idAt o k → x ≡ idAt o i
+id-of o e h = rw e h
+
+-- an arm of a `match` knows which setting it has
+pub part-of : {s k : OptionSetting} (v : List ℕ) {p : Part} → s ≡ k → PartOf (settingIn v k) p → PartOf (settingIn v s) p
+part-of v e h = rw e h
+
+pub part-id : (i : Id) (v : List ℕ) {k : ℕ} → k ≡ setId i [] .which → PartOf (setId i v) (record { 0 = k; 1 = Unset; 2 = NoTimeout; 3 = Nothing })
+part-id Uid v e = record { which = e; auth = refl; timeout = refl; nargs = refl }
+part-id Euid v e = record { which = e; auth = refl; timeout = refl; nargs = refl }
+part-id Gid v e = record { which = e; auth = refl; timeout = refl; nargs = refl }
+part-id Egid v e = record { which = e; auth = refl; timeout = refl; nargs = refl }
+
+-- a setting's id is the value in its text, if the option's number says so
+abbrev idAtNumber : List ℕ → Setting → ℕ → Option (List ℕ)
+idAtNumber v s k = cond (eqb (s .which) k) (some (take idLimit v)) none
+
+module _ (v : List ℕ) where
+  setting-ids : (s : OptionSetting) → let o = settingIn v s in
+      (o .options .uid ≡ idAtNumber v o 0) × (o .options .euid ≡ idAtNumber v o 1) × (o .options .gid ≡ idAtNumber v o 2) × (o .options .egid ≡ idAtNumber v o 3)
+  unfolding noOptions
+  setting-ids (SetId Uid) = (refl, refl, refl, refl)
+  setting-ids (SetId Euid) = (refl, refl, refl, refl)
+  setting-ids (SetId Gid) = (refl, refl, refl, refl)
+  setting-ids (SetId Egid) = (refl, refl, refl, refl)
+  setting-ids (SetAuth b) = (refl, refl, refl, refl)
+  setting-ids (SetTimeout m) = (refl, refl, refl, refl)
+  setting-ids (SetNargs m n) = (refl, refl, refl, refl)
+  setting-ids (SetArgument m n) = (refl, refl, refl, refl)
+  setting-ids SetShell = (refl, refl, refl, refl)
+
+pub set-only : (v : List ℕ) (s : OptionSetting) {p : Part} → PartOf (settingIn v s) p → (o : OptionSet)
+    → idIn (o .uid) ≡ cond (eqb (p .0) 0) (some (take idLimit v)) none → idIn (o .euid) ≡ cond (eqb (p .0) 1) (some (take idLimit v)) none
+    → idIn (o .gid) ≡ cond (eqb (p .0) 2) (some (take idLimit v)) none → idIn (o .egid) ≡ cond (eqb (p .0) 3) (some (take idLimit v)) none
+    → o .auth ≡ p .1 → o .timeout ≡ p .2 → o .nargs ≡ p .3 → optionsIn o ≡ settingIn v s .options
+unfolding optionsIn
+set-only v s h o a b c d e f g =
+    let q = setting-ids v s in
+    rw (a, b, c, d, e, f, g, h .which, h .auth, h .timeout, h .nargs, ← q .0, ← q .1, ← q .2, ← q .3)

@@ -1,5 +1,4 @@
 pub mod Options
-pub mod Read
 pub mod Arguments
-pub mod Line
-pub mod Values
+pub mod Read
+pub mod Contract

@@ -1,23 +1,10 @@
 -- The options that hold one setting, and one set of them laid over another (01, "Options").
 use Prim.Native.Nat.{ℕ}
-use mathlib.Core.Bool.{Bool, true, false, _&&_}
-use mathlib.Core.List.{List, [], _∷_}
-use mathlib.Core.Option.{Option, none, some}
+use mathlib.Core.Bool.{Bool, true, false}
+use mathlib.Core.List.{List, []}
+use mathlib.Core.Option.{Option, none, some, orElse, Option·getD}
 use lib.IntN.{ℤ, pos}
-use lib.Dec.{leb}
-use Rattle.text.specs.Class.{within}
-use Rattle.text.specs.Lists.{firstOf}
-
--- from `low` to `high`, both counted
-pub record Range : Type 0 where
-  pub low : ℕ
-  pub high : ℕ
-
-abbrev pub range : ℕ → ℕ → Range
-range m n = record { low = m; high = n }
-
-abbrev pub inRange : Range → ℕ → Bool
-inRange r n = within (r .low) (r .high) n
+use Rattle.text.specs.Class.{Range, inRange}
 
 -- each option is set or not
 pub record Options : Type 0 where
@@ -29,42 +16,41 @@ pub record Options : Type 0 where
   pub timeout : Option ℤ
   pub nargs : Option Range
 
--- a set that has ids only, and one that has none of them
+-- a set that has ids only
 abbrev pub idsOnly : (uid euid gid egid : Option (List ℕ)) → Options
 idsOnly u e g h = record { uid = u; euid = e; gid = g; egid = h; auth = none; timeout = none; nargs = none }
 
+-- a set that has no ids
 abbrev pub noIds : Option Bool → Option ℤ → Option Range → Options
 noIds a t n = record { uid = none; euid = none; gid = none; egid = none; auth = a; timeout = t; nargs = n }
 
+-- no option is set
 unfoldable pub noOptions : Options
 noOptions = noIds none none none
 
 -- local overrides global: what the first set has, else what the second has
 unfoldable pub over : Options → Options → Options
 over a b = record {
-  uid = firstOf (a .uid) (b .uid);
-  euid = firstOf (a .euid) (b .euid);
-  gid = firstOf (a .gid) (b .gid);
-  egid = firstOf (a .egid) (b .egid);
-  auth = firstOf (a .auth) (b .auth);
-  timeout = firstOf (a .timeout) (b .timeout);
-  nargs = firstOf (a .nargs) (b .nargs);
+  uid = orElse (a .uid) (b .uid);
+  euid = orElse (a .euid) (b .euid);
+  gid = orElse (a .gid) (b .gid);
+  egid = orElse (a .egid) (b .egid);
+  auth = orElse (a .auth) (b .auth);
+  timeout = orElse (a .timeout) (b .timeout);
+  nargs = orElse (a .nargs) (b .nargs);
 }
 
 -- "an option that is not set gives an empty string"
 abbrev pub idOr : Option (List ℕ) → List ℕ
-idOr none = []
-idOr (some v) = v
+idOr o = Option·getD o []
 
 -- unset auth is n
 abbrev pub authOr : Option Bool → Bool
-authOr none = false
-authOr (some b) = b
+authOr o = Option·getD o false
 
 -- an unset timeout counts as 0
 abbrev pub timeoutOr : Option ℤ → ℤ
-timeoutOr none = pos 0
-timeoutOr (some t) = t
+timeoutOr o = Option·getD o (pos 0)
 
 -- nargs: any number of arguments where it is unset
 unfoldable pub nargsAllow : Option Range → ℕ → Bool

@@ -1,74 +1,95 @@
--- One option from a field's text: its name, its value, or its fault (01, "Options").
+-- One option from a field's text: its name, its value, or its fault; and the options of a line (01, "Options").
 use Prim.Native.Nat.{ℕ}
 use mathlib.Core.Bool.{Bool, true, false, not, cond, _&&_, _||_}
 use mathlib.Core.List.{List, [], _∷_, _++_}
-use mathlib.Core.Option.{Option, none, some}
+use mathlib.Core.Option.{Option, none, some, Option·map}
 use lib.IntN.{ℤ, pos, negℤ}
 use lib.Dec.{eqb, leb, ltb}
 use lib.ListN.{length, drop}
-use Rattle.text.specs.Bytes.{bytes}
-use Rattle.text.specs.Class.{nameByte, within}
+use Rattle.text.specs.Bytes.{byte, bytes}
+use Rattle.text.specs.Class.{Range, range, nameByte}
 use Rattle.text.specs.Lists.{all, any, null}
 use Rattle.text.specs.Slice.{same, startsWith}
 use Rattle.text.specs.Parts.{Parts, partAt}
 use Rattle.text.specs.Number.{numberOf}
 use Rattle.text.specs.declared.number.Number.{Number}
 use Rattle.text.specs.declared.number.Number.the-variants.{Value, Malformed}
-use Rattle.fault.specs.Fault.{Reading, fault, value, unless, needed}
+use Rattle.fault.specs.Fault.{Reading, fault, value, andThen, needed, require}
 use Rattle.fault.specs.declared.Cause.{Cause}
-use Rattle.fault.specs.declared.Cause.the-variants.{Pattern, PatternSize, IdLength, OptionValue, PatternKind}
-use Rattle.pattern.specs.declared.Kind.the-variants.{Plain}
-use Rattle.pattern.specs.Tree.{treeOf, fits}
+use Rattle.fault.specs.declared.Cause.the-variants.{IdLength, OptionValue, PatternKind}
+use Rattle.pattern.specs.declared.Syntax.the-variants.{Plain}
+use Rattle.pattern.specs.Tree.{expanded}
 use Rattle.options.specs.declared.Id.{Id}
 use Rattle.options.specs.declared.Id.the-variants.{Uid, Euid, Gid, Egid}
-use Rattle.options.specs.Options.{Range, range, Options, idsOnly, noIds, noOptions, over}
-use Rattle.options.specs.Arguments.{ArgumentPattern, patternAt}
+use Rattle.options.specs.Options.{Options, idsOnly, noIds, noOptions, over}
+use Rattle.options.specs.Arguments.{ArgumentPattern}
 
--- a number, or two with `-` between them, from least to most, the first not above the second
-abbrev pub span : ℕ → ℕ → Number → Number → Option Range
-span least most (Value m) (Value n) = cond (leb least m && (leb m n && leb n most)) (some (range m n)) none
-span least most (Value m) Malformed = none
-span least most Malformed n = none
+-- the most bytes of a user or group name in an option
+abbrev pub idLimit : ℕ
+idLimit = 64
 
-abbrev pub spanParts : ℕ → ℕ → List ℕ → Option Parts → Option Range
-spanParts least most s none = span least most (numberOf s) (numberOf s)
-spanParts least most s (some p) = span least most (numberOf (p .front)) (numberOf (p .back))
+-- the last position of an argument that a pattern can cover
+abbrev pub lastPosition : ℕ
+lastPosition = 64
 
-unfoldable pub rangeOf : ℕ → ℕ → List ℕ → Option Range
-rangeOf least most s = spanParts least most s (partAt 45 s)
+-- the most arguments that nargs can name
+abbrev pub mostNargs : ℕ
+mostNargs = 64
 
--- the name before `=`
-pub data Name : Type 0 where
-  idName : Id → Name
-  auth timeout nargs patterns : Name
-  argument : Range → Name
+-- the most minutes of a timeout, and the most below zero
+abbrev pub mostMinutes : ℕ
+mostMinutes = 32767
 
-abbrev pub argumentName : Option Range → Option Name
-argumentName none = none
-argumentName (some r) = some (argument r)
+abbrev pub mostBelow : ℕ
+mostBelow = 32768
 
--- uid, euid, gid, egid, auth, timeout, nargs, argN, argM-N (1 to 64, M not above N); patterns on `:global` only
-unfoldable pub nameOf : Bool → List ℕ → Option Name
-nameOf global n =
-    cond (same n (bytes "uid")) (some (idName Uid))
-    (cond (same n (bytes "euid")) (some (idName Euid))
-    (cond (same n (bytes "gid")) (some (idName Gid))
-    (cond (same n (bytes "egid")) (some (idName Egid))
-    (cond (same n (bytes "auth")) (some auth)
-    (cond (same n (bytes "timeout")) (some timeout)
-    (cond (same n (bytes "nargs")) (some nargs)
-    (cond (global && same n (bytes "patterns")) (some patterns)
-    (cond (startsWith (bytes "arg") n) (argumentName (rangeOf 1 64 (drop 3 n)))
-    none))))))))
+-- what a field that is an option gives: which option it is, what it sets, and the argument patterns that it adds
+pub record Setting : Type 0 where
+  pub which : ℕ
+  pub options : Options
+  pub arguments : List ArgumentPattern
 
--- an option with its value
-pub data Setting : Type 0 where
-  setId : Id → List ℕ → Setting
-  setAuth : Bool → Setting
-  setTimeout : ℤ → Setting
-  setNargs : Range → Setting
-  setArgument : ArgumentPattern → Setting
-  setShell : Setting
+-- one of the eight options that may not stand twice, by its number
+abbrev pub setOne : ℕ → Options → Setting
+setOne k o = record { which = k; options = o; arguments = [] }
+
+abbrev pub setId : Id → List ℕ → Setting
+setId Uid v = setOne 0 (idsOnly (some v) none none none)
+setId Euid v = setOne 1 (idsOnly none (some v) none none)
+setId Gid v = setOne 2 (idsOnly none none (some v) none)
+setId Egid v = setOne 3 (idsOnly none none none (some v))
+
+abbrev pub setAuth : Bool → Setting
+setAuth b = setOne 4 (noIds (some b) none none)
+
+abbrev pub setTimeout : ℤ → Setting
+setTimeout t = setOne 5 (noIds none (some t) none)
+
+abbrev pub setNargs : Range → Setting
+setNargs r = setOne 6 (noIds none none (some r))
+
+-- `patterns=shell`
+abbrev pub setShell : Setting
+setShell = setOne 7 noOptions
+
+-- an argument pattern, for the positions of a range
+abbrev pub setArgument : Range → List (List ℕ) → Setting
+setArgument r e = record { which = 8; options = noOptions; arguments = record { positions = r; expansions = e } ∷ [] }
+
+-- from one number to another, least and most counted, the first not above the second
+abbrev pub rangeBetween : ℕ → ℕ → Number → Number → Option Range
+rangeBetween least most (Value m) (Value n) = cond (leb least m && (leb m n && leb n most)) (some (range m n)) none
+rangeBetween least most (Value m) Malformed = none
+rangeBetween least most Malformed n = none
+
+-- one number stands for itself
+abbrev pub rangeParts : ℕ → ℕ → List ℕ → Option Parts → Option Range
+rangeParts least most s none = rangeBetween least most (numberOf s) (numberOf s)
+rangeParts least most s (some p) = rangeBetween least most (numberOf (p .front)) (numberOf (p .back))
+
+-- `n` or `m-n`
+unfoldable pub numberRange : ℕ → ℕ → List ℕ → Option Range
+numberRange least most s = rangeParts least most s (partAt (byte "-") s)
 
 -- bytes of the user alphabet, or `<owner>`, `<caller>`
 unfoldable pub isId : List ℕ → Bool
@@ -76,109 +97,74 @@ isId v = same v (bytes "<owner>") || (same v (bytes "<caller>") || not (null v) 
 
 -- the size before the form
 unfoldable pub idOf : Id → List ℕ → Reading Cause Setting
-idOf i v = unless (ltb 64 (length v)) IdLength (unless (not (isId v)) OptionValue (value (setId i v)))
+idOf i v = require (leb (length v) idLimit) IdLength (require (isId v) OptionValue (value (setId i v)))
 
+-- `y` or `n`
 unfoldable pub authOf : List ℕ → Reading Cause Setting
 authOf v = cond (same v (bytes "y")) (value (setAuth true)) (cond (same v (bytes "n")) (value (setAuth false)) (fault OptionValue))
 
 -- a number from 0 to most, as an integer
-abbrev pub bounded : (ℕ → ℤ) → ℕ → Number → Reading Cause Setting
-bounded f most (Value n) = unless (ltb most n) OptionValue (value (setTimeout (f n)))
-bounded f most Malformed = fault OptionValue
+abbrev pub minutesOf : (ℕ → ℤ) → ℕ → Number → Reading Cause Setting
+minutesOf f most (Value n) = require (leb n most) OptionValue (value (setTimeout (f n)))
+minutesOf f most Malformed = fault OptionValue
 
 -- -32,768 to 32,767, one to five digits after an optional `-`
 unfoldable pub timeoutOf : List ℕ → Reading Cause Setting
-timeoutOf [] = fault OptionValue
-timeoutOf (b ∷ s) = cond (eqb b 45) (bounded (λ n. negℤ (pos n)) 32768 (numberOf s)) (bounded pos 32767 (numberOf (b ∷ s)))
+timeoutOf v = cond (startsWith (bytes "-") v) (minutesOf (λ n. negℤ (pos n)) mostBelow (numberOf (drop 1 v))) (minutesOf pos mostMinutes (numberOf v))
+
+-- 0 to 64, m not above n
+abbrev pub nargsOf : List ℕ → Reading Cause Setting
+nargsOf v = needed OptionValue (numberRange 0 mostNargs v) (λ r. value (setNargs r))
+
+-- any value but `shell`, an empty one too, is another kind
+abbrev pub patternsOf : List ℕ → Reading Cause Setting
+patternsOf v = require (same v (bytes "shell")) PatternKind (value setShell)
 
 -- a pattern is well formed, then not too large
 unfoldable pub argumentOf : Range → List ℕ → Reading Cause Setting
-argumentOf r v = needed Pattern (treeOf Plain v) (λ t. unless (not (fits t)) PatternSize (value (setArgument (patternAt r v))))
+argumentOf r v = andThen (expanded Plain v) (λ e. value (setArgument r e))
 
-abbrev pub nargsOf : List ℕ → Reading Cause Setting
-nargsOf v = needed OptionValue (rangeOf 0 64 v) (λ r. value (setNargs r))
+-- an option by its name and its value; argN and argM-N with 1 to 64, M not above N; patterns on `:global` only
+unfoldable pub optionNamed : Bool → (name value : List ℕ) → Option (Reading Cause Setting)
+optionNamed global n v =
+    cond (same n (bytes "uid")) (some (idOf Uid v))
+    (cond (same n (bytes "euid")) (some (idOf Euid v))
+    (cond (same n (bytes "gid")) (some (idOf Gid v))
+    (cond (same n (bytes "egid")) (some (idOf Egid v))
+    (cond (same n (bytes "auth")) (some (authOf v))
+    (cond (same n (bytes "timeout")) (some (timeoutOf v))
+    (cond (same n (bytes "nargs")) (some (nargsOf v))
+    (cond (global && same n (bytes "patterns")) (some (patternsOf v))
+    (cond (startsWith (bytes "arg") n) (Option·map (λ r. argumentOf r v) (numberRange 1 lastPosition (drop 3 n)))
+    none))))))))
 
--- any value but `shell`, an empty one too, is another kind
-abbrev pub kindOf : List ℕ → Reading Cause Setting
-kindOf v = cond (same v (bytes "shell")) (value setShell) (fault PatternKind)
+abbrev pub optionParts : Bool → Option Parts → Option (Reading Cause Setting)
+optionParts global none = none
+optionParts global (some p) = optionNamed global (p .front) (p .back)
 
--- the value behind `=`
-unfoldable pub settingOf : Name → List ℕ → Reading Cause Setting
-settingOf (idName i) v = idOf i v
-settingOf auth v = authOf v
-settingOf timeout v = timeoutOf v
-settingOf nargs v = nargsOf v
-settingOf patterns v = kindOf v
-settingOf (argument r) v = argumentOf r v
-
--- the name of an option that stands before the first `=`
-abbrev pub named : Option Name → List ℕ → Option (Reading Cause Setting)
-named none v = none
-named (some n) v = some (settingOf n v)
-
-abbrev pub namedPart : Bool → Option Parts → Option (Reading Cause Setting)
-namedPart global none = none
-namedPart global (some p) = named (nameOf global (p .front)) (p .back)
-
--- a field's text as an option, where it is one
+-- a field's text as an option, where it is one: the name stands before the first `=`
 unfoldable pub optionOf : Bool → List ℕ → Option (Reading Cause Setting)
-optionOf global t = namedPart global (partAt 61 t)
-
--- a set with one setting
-unfoldable pub only : Setting → Options
-only (setId Uid v) = idsOnly (some v) none none none
-only (setId Euid v) = idsOnly none (some v) none none
-only (setId Gid v) = idsOnly none none (some v) none
-only (setId Egid v) = idsOnly none none none (some v)
-only (setAuth b) = noIds (some b) none none
-only (setTimeout t) = noIds none (some t) none
-only (setNargs r) = noIds none none (some r)
-only (setArgument p) = noOptions
-only setShell = noOptions
+optionOf global t = optionParts global (partAt (byte "=") t)
 
 -- the set of a line's settings
 unfoldable pub optionsOf : List Setting → Options
 optionsOf [] = noOptions
-optionsOf (s ∷ ss) = over (only s) (optionsOf ss)
-
-abbrev pub argumentIn : Setting → List ArgumentPattern
-argumentIn (setId i v) = []
-argumentIn (setAuth v) = []
-argumentIn (setTimeout v) = []
-argumentIn (setNargs v) = []
-argumentIn (setArgument p) = p ∷ []
-argumentIn setShell = []
+optionsOf (s ∷ ss) = over (s .options) (optionsOf ss)
 
 -- the argument patterns of a line, in written order
 unfoldable pub argumentsOf : List Setting → List ArgumentPattern
 argumentsOf [] = []
-argumentsOf (s ∷ ss) = argumentIn s ++ argumentsOf ss
+argumentsOf (s ∷ ss) = s .arguments ++ argumentsOf ss
 
--- which option it is, by a number; an argument pattern is none that can stand twice
-abbrev pub whichOption : Setting → Option ℕ
-whichOption (setId Uid v) = some 0
-whichOption (setId Euid v) = some 1
-whichOption (setId Gid v) = some 2
-whichOption (setId Egid v) = some 3
-whichOption (setAuth v) = some 4
-whichOption (setTimeout v) = some 5
-whichOption (setNargs v) = some 6
-whichOption setShell = some 7
-whichOption (setArgument p) = none
-
-abbrev pub isOption : ℕ → Option ℕ → Bool
-isOption n none = false
-isOption n (some m) = eqb n m
+-- the setting is of the option with that number
+abbrev pub isOption : ℕ → Setting → Bool
+isOption k s = eqb (s .which) k
 
 -- `patterns=shell` is among them
 unfoldable pub hasShell : List Setting → Bool
-hasShell ss = any (λ s. isOption 7 (whichOption s)) ss
-
-abbrev pub among : List Setting → Option ℕ → Bool
-among ss none = false
-among ss (some n) = any (λ s. isOption n (whichOption s)) ss
+hasShell ss = any (isOption 7) ss
 
 -- the same option stands twice, argument patterns excepted
 unfoldable pub twice : List Setting → Bool
 twice [] = false
-twice (s ∷ ss) = among ss (whichOption s) || twice ss
+twice (s ∷ ss) = ltb (s .which) 8 && any (isOption (s .which)) ss || twice ss

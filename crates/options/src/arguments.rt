@@ -1,23 +1,23 @@
 // Which arguments fail an argument pattern: nothing of the patterns is kept but this.
 use super::or;
-use super::read::OptionRead;
-use super::read::value_at;
-use pattern::Kind;
+use super::read::OptionSetting;
+use pattern::Syntax;
 use pattern::matcher::matches_pattern;
 use question::strings::string_end;
+ghost use Prim.Native.Nat.{ℕ};
 ghost use mathlib.Core.Path.{_≡_};
 ghost use mathlib.Core.Bool.{Bool, false, not, _||_};
-ghost use lib.ListN.{replicate};
+ghost use mathlib.Core.List.{List, []};
+ghost use lib.ListN.{getD};
+ghost use Rattle.text.specs.Class.{range};
 ghost use Rattle.text.specs.Lists.{any};
 ghost use Rattle.question.specs.Strings.{stringsIn};
-ghost use Rattle.options.specs.Options.{range};
-ghost use Rattle.options.specs.Arguments.{patternAt, passes, marked, joined};
-ghost use Rattle.options.specs.Line.{markedRead};
-ghost use Rattle.options.specs.Values.{settingIn};
+ghost use Rattle.options.specs.Arguments.{passes};
+ghost use Rattle.options.specs.Contract.{patternAt, failures, failuresWith, failuresAfter, eitherFails};
 
 // Which positions fail.
 pub struct Failures {
-    pub at: [bool; Failures::POSITIONS],
+    at: [bool; Failures::POSITIONS],
 }
 
 // Whether an argument failed before, or fails a pattern that covers its position.
@@ -40,7 +40,7 @@ fn fails(
     if last < position {
         return false;
     }
-    !matches_pattern(Kind::Plain, pattern, argument)
+    !matches_pattern(Syntax::Plain, pattern, argument)
 }
 
 impl Failures {
@@ -49,7 +49,7 @@ impl Failures {
 
     // No pattern, no failure.
     pub fn new() -> Self
-        ensures { λ r. ⌜ r .at ≡ replicate 64 false ⌝ }
+        ensures { λ r. ⌜ ((xs : List (List ℕ)) → r .at ≡ failures [] xs) ⌝ }
     {
         Failures {
             at: [false; Failures::POSITIONS],
@@ -57,8 +57,8 @@ impl Failures {
     }
 
     // With the failures of one more pattern, for the positions from first to last. The arguments are zero-ended strings.
-    pub fn add(self, first: usize, last: usize, pattern: &[u8], args: &[u8]) -> Self
-        ensures { λ r. ⌜ r .at ≡ marked 1 (patternAt (range first last) (now (pattern .entry))) (stringsIn (now (args .entry))) (self .at) ⌝ }
+    fn mark(self, first: usize, last: usize, pattern: &[u8], args: &[u8]) -> Self
+        ensures { λ r. ⌜ r .at ≡ failuresWith 1 (patternAt (range first last) (now (pattern .entry))) (stringsIn (now (args .entry))) (self .at) ⌝ }
     {
         let mut at = self.at;
         let mut from = 0;
@@ -78,30 +78,19 @@ impl Failures {
         Failures { at }
     }
 
-    // With what a field adds, as it was read from its text: nothing where it is no argument pattern.
-    pub fn add_read(self, text: &[u8], read: OptionRead, args: &[u8]) -> Self
-        ensures { λ r. ⌜ r .at ≡ markedRead (stringsIn (now (args .entry))) (self .at) (settingIn (now (text .entry)) read) ⌝ }
+    // With the failures of one more setting, by the value in its text: none where it is no argument pattern.
+    pub fn add(self, value: &[u8], setting: OptionSetting, args: &[u8]) -> Self
+        ensures { λ r. ⌜ r .at ≡ failuresAfter (now (value .entry)) setting (stringsIn (now (args .entry))) (self .at) ⌝ }
     {
-        match read {
-            OptionRead::NotOption => self,
-            OptionRead::Faulty(_) => self,
-            OptionRead::SetId(_, _) => self,
-            OptionRead::SetAuth(_) => self,
-            OptionRead::SetTimeout(_) => self,
-            OptionRead::SetNargs(_, _) => self,
-            OptionRead::SetArgument(first, last, at) => self.add(
-                first,
-                last,
-                value_at(text, at),
-                args,
-            ),
-            OptionRead::SetShell => self,
+        match setting {
+            OptionSetting::SetArgument(first, last) => self.mark(first, last, value, args),
+            _ => self,
         }
     }
 
     // What fails the patterns in force globally or the entry's own.
     pub fn with_own(self, own: Failures) -> Self
-        ensures { λ r. ⌜ r .at ≡ joined (self .at) (own .at) ⌝ }
+        ensures { λ r. ⌜ r .at ≡ eitherFails (self .at) (own .at) ⌝ }
     {
         let mut at = self.at;
         let other = own.at;
@@ -111,6 +100,17 @@ impl Failures {
             i += 1;
         }
         Failures { at }
+    }
+
+    // Whether the argument with that index, from 0, fails.
+    pub fn fails_at(self, i: usize) -> bool
+        ensures { λ r. ⌜ r ≡ getD (self .at) i false ⌝ }
+    {
+        let at = self.at;
+        if i < Failures::POSITIONS {
+            return at[i];
+        }
+        false
     }
 
     // Whether some argument fails.

@@ -1,29 +1,23 @@
 // User and group names in options, kept by value.
 use text::buffer::Filled;
 use text::buffer::put_all;
+use text::number::at_most;
 use text::slice::all_name_bytes;
 use text::slice::equal;
-ghost use Prim.Native.Nat.{min};
 ghost use mathlib.Core.Path.{_≡_};
-ghost use mathlib.Core.Option.{some, none};
+ghost use mathlib.Core.Bool.{cond};
+ghost use mathlib.Core.Option.{some, none, orElse};
 ghost use lib.ListN.{take};
-ghost use Rattle.text.specs.Lists.{firstOf};
 ghost use Rattle.text.specs.Buffer.{Wrote};
 ghost use Rattle.options.specs.Options.{idOr};
-ghost use Rattle.options.specs.Read.{isId};
-ghost use Rattle.options.specs.Values.{idIn};
+ghost use Rattle.options.specs.Read.{idLimit, isId};
+ghost use Rattle.options.specs.Contract.{idIn};
 
 // A name that is set or not: the first bytes of the array.
 pub struct IdName {
-    pub bytes: [u8; IdName::BYTES],
-    pub size: usize,
-    pub given: bool,
-}
-
-fn at_most(n: usize, most: usize) -> usize
-    ensures { λ r. ⌜ r ≡ min n most ⌝ }
-{
-    if n < most { n } else { most }
+    bytes: [u8; IdName::BYTES],
+    size: usize,
+    given: bool,
 }
 
 impl IdName {
@@ -40,10 +34,13 @@ impl IdName {
         }
     }
 
-    // The name with these bytes, as many as a name can have.
-    pub fn of(value: &[u8]) -> Self
-        ensures { λ r. ⌜ idIn r ≡ some (take 64 (now (value .entry))) ⌝ }
+    // The name with these bytes, as many as a name can have, if it is given.
+    pub fn of(given: bool, value: &[u8]) -> Self
+        ensures { λ r. ⌜ idIn r ≡ cond given (some (take idLimit (now (value .entry)))) none ⌝ }
     {
+        if !given {
+            return IdName::new();
+        }
         let size = at_most(value.len(), IdName::BYTES);
         let mut bytes = [0u8; IdName::BYTES];
         let mut i = 0;
@@ -60,7 +57,7 @@ impl IdName {
 
     // This name where it is set, else the other.
     pub fn over(self, other: IdName) -> Self
-        ensures { λ r. ⌜ idIn r ≡ firstOf (idIn self) (idIn other) ⌝ }
+        ensures { λ r. ⌜ idIn r ≡ orElse (idIn self) (idIn other) ⌝ }
     {
         let given = self.given;
         if given { self } else { other }

@@ -1,11 +1,12 @@
 // Options: one from a field's text, a set of them laid over another, and what they allow.
-ghost use mathlib.Core.Bool.{_||_};
 ghost use mathlib.Core.Path.{_≡_};
+ghost use mathlib.Core.Bool.{_||_};
+ghost use mathlib.Core.List.{[]};
+ghost use Rattle.options.specs.Read.{setId};
 
 pub mod arguments; // which arguments fail an argument pattern
 pub mod ids; // user and group names in options
-pub mod line; // the options of one line, as its fields are read
-pub mod name; // the names of options
+pub mod line; // which options stand on a line
 pub mod read; // one option from a field's text
 pub mod set; // the options that hold one setting, and one set of them laid over another
 pub mod span; // ranges of numbers
@@ -17,6 +18,20 @@ pub enum Id {
     Euid,
     Gid,
     Egid,
+}
+
+impl Id {
+    // Its number among the options.
+    fn number(self) -> usize
+        ensures { λ r. ⌜ r ≡ setId self [] .which ⌝ }
+    {
+        match self {
+            Id::Uid => 0,
+            Id::Euid => 1,
+            Id::Gid => 2,
+            Id::Egid => 3,
+        }
+    }
 }
 
 fn or(a: bool, b: bool) -> bool

@@ -1,142 +1,151 @@
 // One option from a field's text.
 use super::Id;
+use super::arguments::Failures;
 use super::ids::IdName;
 use super::ids::is_id;
-use super::name::OptionName;
-use super::name::name_of;
 use super::span::Span;
-use super::span::range_of;
-use super::timeout::Timeout;
-use super::timeout::timeout_of;
+use super::span::number_range;
+use super::timeout::read_timeout;
 use fault::Cause;
-use pattern::Kind;
-use pattern::Shape;
-use pattern::reader::read_pattern;
-use question::Limits;
+use pattern::Syntax;
+use pattern::Expanded;
+use pattern::reader::read_expansions;
 use text::slice::Found;
 use text::slice::equal;
 use text::slice::find_byte;
-ghost use Prim.Native.Nat.{_≤_};
+use text::slice::starts_with;
 ghost use mathlib.Core.Path.{_≡_};
-ghost use mathlib.Core.Option.{some};
-ghost use lib.ListN.{length, drop};
-ghost use Rattle.options.specs.Read.{optionOf, idOf, authOf, timeoutOf, nargsOf, kindOf, argumentOf};
-ghost use Rattle.options.specs.Options.{range};
-ghost use Rattle.options.specs.Values.{settingIn};
+ghost use mathlib.Core.Option.{some, Option·map};
+ghost use Rattle.options.specs.Read.{lastPosition, idOf, authOf, nargsOf, patternsOf, numberRange, argumentOf, optionNamed, optionOf};
+ghost use Rattle.options.specs.Contract.{valueIn, readIn};
 
-// What a field's text is, as an option; a value that is kept as written is told by where it begins in the text.
-pub enum OptionRead {
-    NotOption,
-    Faulty(Cause),
-    SetId(Id, usize),
+// What an option sets; the bytes of an id or of a pattern are the value in its text.
+pub enum OptionSetting {
+    SetId(Id),
     SetAuth(bool),
     SetTimeout(i32),
     SetNargs(usize, usize),
-    // The first and the last position, and where the pattern begins.
-    SetArgument(usize, usize, usize),
+    // The first and the last position.
+    SetArgument(usize, usize),
     SetShell,
 }
 
-// What stands in a text from a place on: the value of what was read.
-pub fn value_at(text: &[u8], at: usize) -> &[u8]
-    ensures { λ r. ⌜ now r ≡ drop at (now (text .entry)) ⌝ }
-{
-    if at < text.len() {
-        return &text[at..];
-    }
-    &text[0..0]
+// What a field's text is, as an option.
+pub enum OptionRead {
+    NotOption,
+    Faulty(Cause),
+    Set(OptionSetting),
 }
 
 // The size before the form.
-fn read_id(text: &[u8], at: usize, id: Id) -> OptionRead
-    requires { ⌜ at ≤ length (now text) ⌝ }
-    ensures { λ r. ⌜ settingIn (now (text .entry)) r ≡ some (idOf id (drop at (now (text .entry)))) ⌝ }
+fn read_id(v: &[u8], id: Id) -> OptionRead
+    ensures { λ r. ⌜ readIn (now (v .entry)) r ≡ some (idOf id (now (v .entry))) ⌝ }
 {
-    if text.len() - at > IdName::BYTES {
+    if v.len() > IdName::BYTES {
         return OptionRead::Faulty(Cause::IdLength);
     }
-    if is_id(&text[at..]) {
-        return OptionRead::SetId(id, at);
+    if is_id(v) {
+        return OptionRead::Set(OptionSetting::SetId(id));
     }
     OptionRead::Faulty(Cause::OptionValue)
 }
 
-fn read_auth(text: &[u8], at: usize) -> OptionRead
-    requires { ⌜ at ≤ length (now text) ⌝ }
-    ensures { λ r. ⌜ settingIn (now (text .entry)) r ≡ some (authOf (drop at (now (text .entry)))) ⌝ }
+fn read_auth(v: &[u8]) -> OptionRead
+    ensures { λ r. ⌜ readIn (now (v .entry)) r ≡ some (authOf (now (v .entry))) ⌝ }
 {
-    if equal(&text[at..], b"y") {
-        return OptionRead::SetAuth(true);
+    if equal(v, b"y") {
+        return OptionRead::Set(OptionSetting::SetAuth(true));
     }
-    if equal(&text[at..], b"n") {
-        return OptionRead::SetAuth(false);
+    if equal(v, b"n") {
+        return OptionRead::Set(OptionSetting::SetAuth(false));
     }
     OptionRead::Faulty(Cause::OptionValue)
 }
 
-fn read_timeout(text: &[u8], at: usize) -> OptionRead
-    requires { ⌜ at ≤ length (now text) ⌝ }
-    ensures { λ r. ⌜ settingIn (now (text .entry)) r ≡ some (timeoutOf (drop at (now (text .entry)))) ⌝ }
+fn read_nargs(v: &[u8]) -> OptionRead
+    ensures { λ r. ⌜ readIn (now (v .entry)) r ≡ some (nargsOf (now (v .entry))) ⌝ }
 {
-    match timeout_of(&text[at..]) {
-        Timeout::Unset => OptionRead::Faulty(Cause::OptionValue),
-        Timeout::Minutes(m) => OptionRead::SetTimeout(m),
-    }
-}
-
-fn read_nargs(text: &[u8], at: usize) -> OptionRead
-    requires { ⌜ at ≤ length (now text) ⌝ }
-    ensures { λ r. ⌜ settingIn (now (text .entry)) r ≡ some (nargsOf (drop at (now (text .entry)))) ⌝ }
-{
-    match range_of(&text[at..], 0, Limits::ARGUMENTS) {
+    match number_range(v, 0, Span::ARGUMENTS) {
         Span::Nothing => OptionRead::Faulty(Cause::OptionValue),
-        Span::Between(m, n) => OptionRead::SetNargs(m, n),
+        Span::Between(m, n) => OptionRead::Set(OptionSetting::SetNargs(m, n)),
     }
 }
 
-fn read_kind(text: &[u8], at: usize) -> OptionRead
-    requires { ⌜ at ≤ length (now text) ⌝ }
-    ensures { λ r. ⌜ settingIn (now (text .entry)) r ≡ some (kindOf (drop at (now (text .entry)))) ⌝ }
+fn read_patterns(v: &[u8]) -> OptionRead
+    ensures { λ r. ⌜ readIn (now (v .entry)) r ≡ some (patternsOf (now (v .entry))) ⌝ }
 {
-    if equal(&text[at..], b"shell") {
-        return OptionRead::SetShell;
+    if equal(v, b"shell") {
+        return OptionRead::Set(OptionSetting::SetShell);
     }
     OptionRead::Faulty(Cause::PatternKind)
 }
 
-// A pattern is well formed, then not too large.
-fn read_argument(text: &[u8], at: usize, first: usize, last: usize) -> OptionRead
-    requires { ⌜ at ≤ length (now text) ⌝ }
-    ensures { λ r. ⌜ settingIn (now (text .entry)) r ≡ some (argumentOf (range first last) (drop at (now (text .entry)))) ⌝ }
+// A pattern for the positions that follow `arg`: well formed, then not too large.
+fn read_argument(positions: &[u8], v: &[u8]) -> OptionRead
+    ensures { λ r. ⌜ readIn (now (v .entry)) r ≡ Option·map (λ p. argumentOf p (now (v .entry))) (numberRange 1 lastPosition (now (positions .entry))) ⌝ }
 {
-    match read_pattern(Kind::Plain, &text[at..]) {
-        Shape::Malformed => OptionRead::Faulty(Cause::Pattern),
-        Shape::Read(size) => {
-            if size.fits() {
-                return OptionRead::SetArgument(first, last, at);
-            }
-            OptionRead::Faulty(Cause::PatternSize)
-        }
+    match number_range(positions, 1, Failures::POSITIONS) {
+        Span::Nothing => OptionRead::NotOption,
+        Span::Between(m, n) => match read_expansions(Syntax::Plain, v) {
+            Expanded::Fault(cause) => OptionRead::Faulty(cause),
+            Expanded::Number(_) => OptionRead::Set(OptionSetting::SetArgument(m, n)),
+        },
     }
+}
+
+// The option with that name and value; `patterns` on `:global` only.
+fn read_named(name: &[u8], v: &[u8], global: bool) -> OptionRead
+    ensures { λ r. ⌜ readIn (now (v .entry)) r ≡ optionNamed global (now (name .entry)) (now (v .entry)) ⌝ }
+{
+    if equal(name, b"uid") {
+        return read_id(v, Id::Uid);
+    }
+    if equal(name, b"euid") {
+        return read_id(v, Id::Euid);
+    }
+    if equal(name, b"gid") {
+        return read_id(v, Id::Gid);
+    }
+    if equal(name, b"egid") {
+        return read_id(v, Id::Egid);
+    }
+    if equal(name, b"auth") {
+        return read_auth(v);
+    }
+    if equal(name, b"timeout") {
+        return read_timeout(v);
+    }
+    if equal(name, b"nargs") {
+        return read_nargs(v);
+    }
+    if equal(name, b"patterns") {
+        if global {
+            return read_patterns(v);
+        }
+        return OptionRead::NotOption;
+    }
+    if starts_with(name, b"arg") {
+        return read_argument(&name[3..], v);
+    }
+    OptionRead::NotOption
 }
 
 // The option that a field's text is, with its value or its fault.
 pub fn read_option(text: &[u8], global: bool) -> OptionRead
-    ensures { λ r. ⌜ settingIn (now (text .entry)) r ≡ optionOf global (now (text .entry)) ⌝ }
+    ensures { λ r. ⌜ readIn (valueIn (now (text .entry))) r ≡ optionOf global (now (text .entry)) ⌝ }
 {
-    match find_byte(text, 61) {
+    match find_byte(text, b'=') {
         Found::Nothing => OptionRead::NotOption,
-        Found::At(i) => {
-            let at = i + 1;
-            match name_of(&text[..i], global) {
-                OptionName::Unknown => OptionRead::NotOption,
-                OptionName::OfId(id) => read_id(text, at, id),
-                OptionName::OfAuth => read_auth(text, at),
-                OptionName::OfTimeout => read_timeout(text, at),
-                OptionName::OfNargs => read_nargs(text, at),
-                OptionName::OfPatterns => read_kind(text, at),
-                OptionName::OfArgument(m, n) => read_argument(text, at, m, n),
-            }
-        }
+        Found::At(i) => read_named(&text[..i], &text[i + 1..], global),
+    }
+}
+
+// The value in an option's text: what stands behind its first `=`.
+pub fn value_of(text: &[u8]) -> &[u8]
+    ensures { λ r. ⌜ now r ≡ valueIn (now (text .entry)) ⌝ }
+{
+    match find_byte(text, b'=') {
+        Found::Nothing => &text[0..0],
+        Found::At(i) => &text[i + 1..],
     }
 }

@@ -1,17 +1,18 @@
 // The options that hold one setting, each set or not, by value.
+use super::Id;
 use super::ids::IdName;
+use super::read::OptionSetting;
 use super::span::Span;
 use super::timeout::Timeout;
 use question::LastAuthentication;
 use question::password::password_needed;
 ghost use Prim.Native.Nat.{ℕ};
 ghost use mathlib.Core.Path.{_≡_};
-ghost use mathlib.Core.Option.{some};
+ghost use mathlib.Core.List.{List};
+ghost use mathlib.Core.Option.{some, orElse};
 ghost use Rattle.question.specs.Password.{passwordNeeded};
-ghost use Rattle.options.specs.Line.{isSet};
-ghost use Rattle.text.specs.Lists.{firstOf};
-ghost use Rattle.options.specs.Options.{idsOnly, noIds, noOptions, over, authOr, timeoutOr, nargsAllow};
-ghost use Rattle.options.specs.Values.{idIn, authIn, timeoutIn, spanIn, optionsIn};
+ghost use Rattle.options.specs.Options.{noOptions, over, authOr, timeoutOr};
+ghost use Rattle.options.specs.Contract.{idIn, authIn, timeoutIn, spanIn, optionsIn, idAt, settingIn, PartOf};
 
 pub enum Auth {
     Unset,
@@ -21,7 +22,7 @@ pub enum Auth {
 
 impl Auth {
     pub fn over(self, other: Auth) -> Self
-        ensures { λ r. ⌜ authIn r ≡ firstOf (authIn self) (authIn other) ⌝ }
+        ensures { λ r. ⌜ authIn r ≡ orElse (authIn self) (authIn other) ⌝ }
     {
         match self {
             Auth::Unset => other,
@@ -30,20 +31,10 @@ impl Auth {
         }
     }
 
-    pub fn of(yes: bool) -> Self
+    fn of(yes: bool) -> Self
         ensures { λ r. ⌜ authIn r ≡ some yes ⌝ }
     {
         if yes { Auth::Yes } else { Auth::No }
-    }
-
-    pub fn is_set(self) -> bool
-        ensures { λ r. ⌜ r ≡ isSet (authIn self) ⌝ }
-    {
-        match self {
-            Auth::Unset => false,
-            Auth::Yes => true,
-            Auth::No => true,
-        }
     }
 
     // Unset auth is n.
@@ -58,101 +49,65 @@ impl Auth {
     }
 }
 
-impl Timeout {
-    pub fn over(self, other: Timeout) -> Self
-        ensures { λ r. ⌜ timeoutIn r ≡ firstOf (timeoutIn self) (timeoutIn other) ⌝ }
+// Which option a setting is of, by its number, and what it sets of auth, timeout and nargs.
+pub struct Part(usize, Auth, Timeout, Span);
+
+impl OptionSetting {
+    fn part(self) -> Part
+        ensures { λ r. ⌜ ((v : List ℕ) → PartOf (settingIn v self) r) ⌝ }
     {
         match self {
-            Timeout::Unset => other,
-            Timeout::Minutes(m) => Timeout::Minutes(m),
+            OptionSetting::SetId(id) => Part(
+                id.number(),
+                Auth::Unset,
+                Timeout::Unset,
+                Span::Nothing,
+            ),
+            OptionSetting::SetAuth(yes) => Part(4, Auth::of(yes), Timeout::Unset, Span::Nothing),
+            OptionSetting::SetTimeout(m) => Part(
+                5,
+                Auth::Unset,
+                Timeout::Minutes(m),
+                Span::Nothing,
+            ),
+            OptionSetting::SetNargs(m, n) => Part(
+                6,
+                Auth::Unset,
+                Timeout::Unset,
+                Span::Between(m, n),
+            ),
+            OptionSetting::SetShell => Part(7, Auth::Unset, Timeout::Unset, Span::Nothing),
+            OptionSetting::SetArgument(_, _) => Part(
+                8,
+                Auth::Unset,
+                Timeout::Unset,
+                Span::Nothing,
+            ),
         }
     }
 
-    pub fn is_set(self) -> bool
-        ensures { λ r. ⌜ r ≡ isSet (timeoutIn self) ⌝ }
+    // The number of its option: the ids from 0 to 3, auth 4, timeout 5, nargs 6, patterns 7; argument patterns are 8.
+    pub fn number(self) -> usize
+        ensures { λ r. ⌜ ((v : List ℕ) → r ≡ settingIn v self .which) ⌝ }
     {
-        match self {
-            Timeout::Unset => false,
-            Timeout::Minutes(_) => true,
-        }
-    }
-
-    // An unset timeout counts as 0.
-    pub fn or_default(self) -> i32
-        ensures { λ r. ⌜ r ≡ timeoutOr (timeoutIn self) ⌝ }
-    {
-        match self {
-            Timeout::Unset => 0,
-            Timeout::Minutes(m) => m,
-        }
-    }
-}
-
-impl Span {
-    pub fn over(self, other: Span) -> Self
-        ensures { λ r. ⌜ spanIn r ≡ firstOf (spanIn self) (spanIn other) ⌝ }
-    {
-        match self {
-            Span::Nothing => other,
-            Span::Between(m, n) => Span::Between(m, n),
-        }
-    }
-
-    pub fn is_set(self) -> bool
-        ensures { λ r. ⌜ r ≡ isSet (spanIn self) ⌝ }
-    {
-        match self {
-            Span::Nothing => false,
-            Span::Between(_, _) => true,
-        }
-    }
-
-    // Whether so many arguments are allowed; where there is no range, any number is.
-    pub fn allows(self, count: usize) -> bool
-        ensures { λ r. ⌜ r ≡ nargsAllow (spanIn self) count ⌝ }
-    {
-        match self {
-            Span::Nothing => true,
-            Span::Between(m, n) => m <= count && count <= n,
-        }
+        let part = self.part();
+        part.0
     }
 }
 
 pub struct OptionSet {
-    pub uid: IdName,
-    pub euid: IdName,
-    pub gid: IdName,
-    pub egid: IdName,
-    pub auth: Auth,
-    pub timeout: Timeout,
-    pub nargs: Span,
+    uid: IdName,
+    euid: IdName,
+    gid: IdName,
+    egid: IdName,
+    auth: Auth,
+    timeout: Timeout,
+    nargs: Span,
 }
 
 impl OptionSet {
     pub fn new() -> Self
         ensures { λ r. ⌜ optionsIn r ≡ noOptions ⌝ }
-    {
-        OptionSet::no_ids(Auth::Unset, Timeout::Unset, Span::Nothing)
-    }
-
-    // A set that has ids only.
-    pub fn ids_only(uid: IdName, euid: IdName, gid: IdName, egid: IdName) -> Self
-        ensures { λ r. ⌜ optionsIn r ≡ idsOnly (idIn uid) (idIn euid) (idIn gid) (idIn egid) ⌝ }
-    {
-        OptionSet {
-            uid,
-            euid,
-            gid,
-            egid,
-            auth: Auth::Unset,
-            timeout: Timeout::Unset,
-            nargs: Span::Nothing,
-        }
-    }
-
-    // A set that has no ids.
-    pub fn no_ids(auth: Auth, timeout: Timeout, nargs: Span) -> Self
-        ensures { λ r. ⌜ optionsIn r ≡ noIds (authIn auth) (timeoutIn timeout) (spanIn nargs) ⌝ }
     {
         let unset = IdName::new();
         OptionSet {
@@ -160,10 +115,37 @@ impl OptionSet {
             euid: unset,
             gid: unset,
             egid: unset,
+            auth: Auth::Unset,
+            timeout: Timeout::Unset,
+            nargs: Span::Nothing,
+        }
+    }
+
+    // The set with one setting, by the value in its text.
+    fn only(value: &[u8], setting: OptionSetting) -> Self
+        ensures { λ r. ⌜ optionsIn r ≡ settingIn (now (value .entry)) setting .options ⌝ }
+    {
+        let part = setting.part();
+        let number = part.0;
+        let auth = part.1;
+        let timeout = part.2;
+        let nargs = part.3;
+        OptionSet {
+            uid: IdName::of(number == 0, value),
+            euid: IdName::of(number == 1, value),
+            gid: IdName::of(number == 2, value),
+            egid: IdName::of(number == 3, value),
             auth,
             timeout,
             nargs,
         }
+    }
+
+    // With one more setting of the line, by the value in its text; what is set stays.
+    pub fn add(self, value: &[u8], setting: OptionSetting) -> Self
+        ensures { λ r. ⌜ optionsIn r ≡ over (optionsIn self) (settingIn (now (value .entry)) setting .options) ⌝ }
+    {
+        self.over(OptionSet::only(value, setting))
     }
 
     // This set laid over the other: what this one has, else what the other has.
@@ -193,6 +175,35 @@ impl OptionSet {
             timeout: timeout.over(other_timeout),
             nargs: nargs.over(other_nargs),
         }
+    }
+
+    pub fn id(self, id: Id) -> IdName
+        ensures { λ r. ⌜ idIn r ≡ idAt (optionsIn self) id ⌝ }
+    {
+        match id {
+            Id::Uid => self.uid,
+            Id::Euid => self.euid,
+            Id::Gid => self.gid,
+            Id::Egid => self.egid,
+        }
+    }
+
+    pub fn auth(self) -> Auth
+        ensures { λ r. ⌜ authIn r ≡ optionsIn self .auth ⌝ }
+    {
+        self.auth
+    }
+
+    pub fn timeout(self) -> Timeout
+        ensures { λ r. ⌜ timeoutIn r ≡ optionsIn self .timeout ⌝ }
+    {
+        self.timeout
+    }
+
+    pub fn nargs(self) -> Span
+        ensures { λ r. ⌜ spanIn r ≡ optionsIn self .nargs ⌝ }
+    {
+        self.nargs
     }
 
     // Whether a password is needed: auth and timeout as set, or as they count where they are not.

@@ -6,7 +6,7 @@ use mathlib.Core.Option.{Option, none, some}
 use Rattle.text.specs.Bytes.{bytes}
 use Rattle.text.specs.Lists.{null}
 use Rattle.text.specs.Slice.{same}
-use Rattle.fault.specs.Fault.{Reading, fault, value, andThen, readAll, needed, unless}
+use Rattle.fault.specs.Fault.{Reading, fault, value, andThen, readAll, needed, require}
 use Rattle.fault.specs.declared.Cause.{Cause}
 use Rattle.fault.specs.declared.Cause.the-variants.{IfDepth, OptionName, ColonWord, Operator, SurplusField, MissingPart, OptionTwice}
 use Rattle.variables.specs.Scope.{Scope, Definition, definition}
@@ -35,7 +35,7 @@ globalField sc f = andThen (fieldText sc f) (λ t. needed OptionName (optionOf t
 
 -- `:global` with options only, at least one
 unfoldable pub globalLine : Scope → State → List (List ℕ) → Reading Cause State
-globalLine sc s fs = andThen (readAll (globalField sc) fs) (λ ss. unless (null ss) MissingPart (unless (twice ss) OptionTwice (value (withSettings ss s))))
+globalLine sc s fs = andThen (readAll (globalField sc) fs) (λ ss. require (not (null ss)) MissingPart (require (not (twice ss)) OptionTwice (value (withSettings ss s))))
 
 -- an operator tells whether equal bytes take the rest
 unfoldable pub operatorOf : List ℕ → Reading Cause Bool

@@ -13,7 +13,7 @@ use lib.Dec.{leb}
 use Rattle.text.proofs.Laws.{next}
 use Rattle.text.specs.declared.buffer.Filled.{Filled}
 use Rattle.text.specs.declared.buffer.Filled.the-variants.{Done, Full}
-use Rattle.text.specs.Buffer.{laid, upTo, Wrote}
+use Rattle.text.specs.Contract.{laid, filledTo, Wrote}
 
 pub laid-length : (out : List ℕ) (n : ℕ) (xs : List ℕ) → length (laid out n xs) ≡ length out
 unfolding laid
@@ -62,12 +62,12 @@ laid-take out n xs h =
     let k : n ≤ length out = omega arith in
     ap (take (n + length xs)) (laid-is out n xs h) ∙ take-at (take n out ++ xs) (drop (n + length xs) out) (n + length xs) (length-append (take n out) xs ∙ rw (length-take-le n out k))
 
-pub done-up : (size m : ℕ) → m ≤ size → Done m ≡ upTo size m
-unfolding upTo
+pub done-up : (size m : ℕ) → m ≤ size → Done m ≡ filledTo size m
+unfolding filledTo
 done-up size m h = rw (le-leb m size h)
 
-pub full-up : (size m : ℕ) → size < m → Full ≡ upTo size m
-unfolding upTo
+pub full-up : (size m : ℕ) → size < m → Full ≡ filledTo size m
+unfolding filledTo
 full-up size m h = rw (lt-leb m size h)
 
 -- what an answer tells: by the Bool of the test
@@ -79,12 +79,12 @@ told-full : (t : Bool) (m : ℕ) → cond t (Done m) Full ≡ Full → t ≡ fal
 told-full true m e = cc
 told-full false m e = refl
 
-pub up-done : (size m k : ℕ) → upTo size m ≡ Done k → (m ≤ size) × (k ≡ m)
-unfolding upTo
+pub up-done : (size m k : ℕ) → filledTo size m ≡ Done k → (m ≤ size) × (k ≡ m)
+unfolding filledTo
 up-done size m k e = let t = told-done (leb m size) m k e in (leb-true m size (t .0), t .1)
 
-pub up-full : (size m : ℕ) → upTo size m ≡ Full → size < m
-unfolding upTo
+pub up-full : (size m : ℕ) → filledTo size m ≡ Full → size < m
+unfolding filledTo
 up-full size m e = leb-false m size (told-full (leb m size) m e)
 
 module _ {old mid : List ℕ} {n : ℕ} {xs : List ℕ} {r : Filled} (w : Wrote old mid n xs r) where

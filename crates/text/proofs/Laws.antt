@@ -2,6 +2,7 @@
 use mathlib.Core.Path.{_≡_, refl, sym, ap, _∙_}
 use mathlib.Core.Bool.{Bool, true, false, not, cond, _&&_, _||_}
 use mathlib.Core.List.{List, [], _∷_, _++_, map}
+use mathlib.Core.Option.{Option, none, some, bind}
 use mathlib.Core.Logic.{_⊎_, inl, inr}
 use Prim.Native.Nat.{ℕ, zero, suc, _+_, _-_, _≤_, _<_, min}
 use native.Mathlib.Omega.{arith}
@@ -36,6 +37,20 @@ pick-told false x y h = absurd (h refl)
 pub pick-ap : {X Y : Type 0} (f : X → Y) (t : Bool) (x y : X) → f (cond t x y) ≡ cond t (f x) (f y)
 pick-ap f true x y = refl
 pick-ap f false x y = refl
+
+-- a choice of something or none that is something
+pub chosen : {A : Type 0} (t : Bool) (o : Option A) (w : A) → cond t o none ≡ some w → (t ≡ true) × (o ≡ some w)
+chosen true o w e = (refl, e)
+chosen false o w e = (cc, cc)
+
+-- one thing after the other, where the first is none and where it is something
+pub bind-none : {A B : Type 0} {o : Option A} (f : A → Option B) → o ≡ none → none ≡ bind o f
+unfolding bind
+bind-none f e = rw e
+
+pub bind-some : {A B : Type 0} {o : Option A} (f : A → Option B) {x : A} {y : Option B} → o ≡ some x → y ≡ f x → y ≡ bind o f
+unfolding bind
+bind-some f e p = rw e p
 
 pub both-true : (a b : Bool) → a && b ≡ true → (a ≡ true) × (b ≡ true)
 both-true true b e = (refl, e)

@@ -10,11 +10,11 @@ use lib.Dec.{eqb}
 use lib.Seq.{getD-take}
 use lib.ListN.{length, length-take, take, drop, getD, drop-of-length-le, take-append-drop}
 use Rattle.text.specs.Lists.{all, any, count, firstOf, firstFault, has, onto, splitAt}
-use Rattle.text.specs.Slice.{findByte}
+use Rattle.text.specs.Contract.{findByte}
 use Rattle.text.specs.Parts.{partAt}
 use Rattle.text.specs.declared.slice.Found.the-variants.{At, Nothing}
-use Rattle.text.proofs.Slices.{byte-at, byte-none}
-use Rattle.text.proofs.Laws.{next, next-of, both-true, both-of, both-assoc, either-of, either-false, either-assoc, not-both, not-either}
+use Rattle.text.proofs.Leads.{found-parts, found-none}
+use Rattle.text.proofs.Laws.{next, next-of, both-true, both-of, both-assoc, either-of, either-false, either-assoc, not-both, not-either, part-start, part-rest, clash}
 
 -- a turn of a loop that asks each element, with z for what stands past the end
 module _ {A : Type 0} (z : A) (f : A → Bool) (s : List A) (i : ℕ) where
@@ -169,7 +169,7 @@ unfolding has
 has-at c s i h e = any-at (λ b. eqb b c) 0 s i h (eq-eqb _ _ e)
 
 pub has-no : (c : ℕ) (s : List ℕ) (i : ℕ) → i < length s → has c s ≡ false → getD s i 0 ≡ c → ⊥
-has-no c s i h n e = let t = has-at c s i h e in let z : _≡_ {A = ℕ} 0 1 = cc in omega arith
+has-no c s i h n e = let t = has-at c s i h e in clash cc
 
 -- a turn of a loop that looks for a byte
 module _ (c : ℕ) (s : List ℕ) (i : ℕ) where
@@ -202,97 +202,9 @@ split-length c (b ∷ s) = go (eqb b c) (split-length c s)
     go true e = ap suc e
     go false e = onto-length b (splitAt c s) (omega arith) ∙ e
 
--- a list without c is one part
-pub split-none : (c : ℕ) (s : List ℕ) → has c s ≡ false → splitAt c s ≡ s ∷ []
-unfolding splitAt has any
-split-none c [] e = refl
-split-none c (b ∷ s) e =
-    let t = either-false (eqb b c) (any (λ x. eqb x c) s) e in
-    rw (t .0, split-none c s (t .1))
-
--- the first part ends at the first c, and the rest is split behind it
-pub split-first : (c : ℕ) (p s : List ℕ) → has c p ≡ false → splitAt c (p ++ c ∷ s) ≡ p ∷ splitAt c s
-unfolding splitAt has any
-split-first c [] s e = rw (eq-eqb c c refl)
-split-first c (b ∷ p) s e =
-    let t = either-false (eqb b c) (any (λ x. eqb x c) p) e in
-    rw (t .0, split-first c p s (t .1))
-
--- the parts with c between them
-abbrev pub joinedRest : ℕ → List (List ℕ) → List ℕ
-joinedRest c [] = []
-joinedRest c (p ∷ ps) = c ∷ p ++ joinedRest c ps
-
-abbrev pub joined : ℕ → List (List ℕ) → List ℕ
-joined c [] = []
-joined c (p ∷ ps) = p ++ joinedRest c ps
-
--- joined, the parts are the whole
-pub split-join : (c : ℕ) (s : List ℕ) → joined c (splitAt c s) ≡ s
-unfolding splitAt
-split-join c [] = refl
-split-join c (b ∷ s) = go (eqb b c) refl (splitAt c s) (rw split-length (omega arith)) (split-join c s)
-  where
-    go : (t : Bool) → eqb b c ≡ t → (ps : List (List ℕ)) → 0 < length ps → joined c ps ≡ s → joined c (cond t ([] ∷ ps) (onto b ps)) ≡ b ∷ s
-    go t e [] h j = absurd (omega arith)
-    go true e (p ∷ ps) h j = let k = eqb-true b c e in cc
-    go false e (p ∷ ps) h j = cc
-
--- no part has the byte
-pub split-parts : (c : ℕ) (s : List ℕ) → all (λ p. not (has c p)) (splitAt c s) ≡ true
-unfolding splitAt all has any
-split-parts c [] = refl
-split-parts c (b ∷ s) = go (eqb b c) refl (splitAt c s) (split-parts c s)
-  where
-    go : (t : Bool) → eqb b c ≡ t → (ps : List (List ℕ)) → all (λ p. not (has c p)) ps ≡ true → all (λ p. not (has c p)) (cond t ([] ∷ ps) (onto b ps)) ≡ true
-    go true e ps h = h
-    go false e [] h = rw e
-    go false e (p ∷ ps) h = rw e h
-
--- so the parts are the only ones without the byte that join to the whole
-pub split-only : (c : ℕ) (p : List ℕ) (ps : List (List ℕ)) → all (λ q. not (has c q)) (p ∷ ps) ≡ true → splitAt c (joined c (p ∷ ps)) ≡ p ∷ ps
-unfolding all
-split-only c p [] e = rw (append-nil p) (split-none c p (not-true (has c p) (both-true (not (has c p)) true e .0)))
-split-only c p (q ∷ ps) e =
-    let t = both-true (not (has c p)) (all (λ q. not (has c q)) (q ∷ ps)) e in
-    split-first c p (joined c (q ∷ ps)) (not-true (has c p) (t .0)) ∙ ap (λ l. p ∷ l) (split-only c q ps (t .1))
-
--- the bytes before the first c, that c, and the bytes behind it
-pub parted : (c : ℕ) (s : List ℕ) (i : ℕ) → findByte c 0 s ≡ At i → s ≡ take i s ++ c ∷ drop (i + 1) s
-parted c s i e =
-    let t = byte-at c s i e in
-    sym (take-append-drop i s) ∙ ap (λ l. take i s ++ l) (next s i (t .0) ∙ rw (t .1))
-
--- the parts by the place of the first c
-pub split-found : (c : ℕ) (s : List ℕ) (i : ℕ) → findByte c 0 s ≡ At i → splitAt c s ≡ take i s ∷ splitAt c (drop (i + 1) s)
-split-found c s i e = let t = byte-at c s i e in ap (splitAt c) (parted c s i e) ∙ split-first c (take i s) (drop (i + 1) s) (t .2)
-
-pub split-missing : (c : ℕ) (s : List ℕ) → findByte c 0 s ≡ Nothing → splitAt c s ≡ s ∷ []
-split-missing c s e = split-none c s (byte-none c 0 s e)
-
--- the place found is the first
-pub byte-before : (c : ℕ) (s : List ℕ) (i j : ℕ) → findByte c 0 s ≡ At i → j < i → getD s j 0 ≡ c → ⊥
-byte-before c s i j e h k =
-    let t = byte-at c s i e in
-    has-no c (take i s) j (rw length-take (omega (arith, t .0))) (t .2) (getD-take i s j 0 h ∙ k)
-
 -- the text parted at its first c, by the place of that byte
-pub parted-first : (c : ℕ) (p s : List ℕ) → has c p ≡ false → partAt c (p ++ c ∷ s) ≡ some (record { front = p; back = s })
-unfolding partAt has any
-parted-first c [] s e = rw (eq-eqb c c refl)
-parted-first c (b ∷ p) s e =
-    let t = either-false (eqb b c) (any (λ x. eqb x c) p) e in
-    rw (t .0, parted-first c p s (t .1))
-
 pub parted-found : (c : ℕ) (s : List ℕ) (i : ℕ) → findByte c 0 s ≡ At i → partAt c s ≡ some (record { front = take i s; back = drop (i + 1) s })
-parted-found c s i e = let t = byte-at c s i e in ap (partAt c) (parted c s i e) ∙ parted-first c (take i s) (drop (i + 1) s) (t .2)
-
-pub parted-none : (c : ℕ) (s : List ℕ) → has c s ≡ false → partAt c s ≡ none
-unfolding partAt has any
-parted-none c [] e = refl
-parted-none c (b ∷ s) e =
-    let t = either-false (eqb b c) (any (λ x. eqb x c) s) e in
-    rw (t .0, parted-none c s (t .1))
+parted-found c s i e = rw (part-start i s, part-rest (i + 1) s) at (found-parts c s (At i) (sym e) refl)
 
 pub parted-missing : (c : ℕ) (s : List ℕ) → findByte c 0 s ≡ Nothing → partAt c s ≡ none
-parted-missing c s e = parted-none c s (byte-none c 0 s e)
+parted-missing c s e = found-none c s Nothing (sym e) refl

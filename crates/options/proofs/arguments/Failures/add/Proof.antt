@@ -1,88 +1,40 @@
-use mathlib.Core.Path.{_≡_, refl, _∙_}
-use Prim.Native.Nat.{_-_, _≤_}
-use native.Mathlib.Omega.{arith}
 use borrow.Author.Needs.{needs}
-use lib.ListN.{length}
-use Rattle.options.proofs.ArgumentLaws.{markedFrom, marked-on, marked-end, marked-open, marked-full}
-use Rattle.options.specs.Arguments.{patternAt, marked}
-use Rattle.options.specs.Options.{range}
 use Rattle.question.specs.Strings.{stringsIn}
+use Rattle.options.proofs.ArgumentLaws.{failures-of}
+use Rattle.options.proofs.read.OptionSetting.{the-type}
+use Rattle.options.specs.Contract.{failuresAfter}
+use Rattle.options.specs.declared.read.OptionSetting.the-variants.{SetId, SetAuth, SetTimeout, SetNargs, SetArgument, SetShell}
+use Rattle.options.specs.declared.read.OptionSetting.{OptionSetting}
+use denote.Enum.Declared.{tagOf}
+use types.Run.{OneOf, miss}
+use Prim.Native.Nat.{ℕ}
+use mathlib.Core.List.{List, [], _∷_}
+use mathlib.Core.Bool.{Bool}
+use mathlib.Core.Path.{_≡_, refl, _∙_}
 use Rattle.options.proofs.arguments.Failures.add.Statement.{statement}
 use Rattle.options.proofs.arguments.Failures.add.Tie as tie
+use Rattle.options.proofs.arguments.Failures.add.Reads as reads
 
-abbrev Inv-loop : tie.InvT-loop
-Inv-loop first last pattern args at₀ from₀ i₀ at from i = (i ≤ 64) × (length at ≡ 64) × (markedFrom (patternAt (range first last) pattern) args at from i ≡ marked 1 (patternAt (range first last) pattern) (stringsIn args) at₀)
+-- a setting of another tag is no argument pattern
+none-of : (v : List ℕ) (s : OptionSetting) (xs : List (List ℕ)) (fs : List Bool) → OneOf (0 ∷ 1 ∷ 2 ∷ 3 ∷ 5 ∷ []) (tagOf the-type s) → fs ≡ failuresAfter v s xs fs
+none-of v (SetId i) xs fs h = refl
+none-of v (SetAuth b) xs fs h = refl
+none-of v (SetTimeout m) xs fs h = refl
+none-of v (SetNargs m n) xs fs h = refl
+none-of v (SetArgument m n) xs fs h = absurd (miss (0 ∷ 1 ∷ 2 ∷ 3 ∷ 5 ∷ []) 4 tt h)
+none-of v SetShell xs fs h = refl
 
-abbrev μ-loop : tie.MeasureT-loop
-μ-loop first last pattern args at₀ from₀ i₀ at from i = 64 - i
+enum-known-setting : tie.Need-enum-known-setting
+enum-known-setting c = search needs
 
-loop-holds : tie.Need-loop-holds Inv-loop μ-loop
-loop-holds c = (omega arith, search needs, refl)
+mark-requires : tie.Need-mark-requires
+mark-requires c κs = search needs
 
-returns : tie.Need-returns Inv-loop μ-loop
-returns c = let l = c .before .before .loop in let a = c .before .before .before .before .before .before .args in marked-end (patternAt (range (a .first) (a .last)) (a .pattern .now)) (a .args .now) (l .at) (l .from) (l .i) (c .if1 .taken) ∙ l .inv .2
+returns : tie.Need-returns
+returns c = let a = c .before .before .before .before .before .before .args in failures-of (a .value .now) (stringsIn (a .args .now)) (a .self .at) (c .before .before .setting .given .1) (c .mark .ensures)
 
-string-end-requires : tie.Need-string-end-requires Inv-loop μ-loop
-string-end-requires c κs = search needs
-
-returns-2 : tie.Need-returns-2 Inv-loop μ-loop
-returns-2 c = let l = c .before .before .before .before .loop in let a = c .before .before .before .before .before .before .before .before .args in marked-open (patternAt (range (a .first) (a .last)) (a .pattern .now)) (a .args .now) (l .at) (l .from) (l .i) _ (c .before .string-end .ensures .0) (c .if2 .taken) ∙ l .inv .2
-
-array-read-fails : tie.Need-array-read-fails Inv-loop μ-loop
-array-read-fails c = search needs
-
-add-fails : tie.Need-add-fails Inv-loop μ-loop
-add-fails c = search needs
-
-sub-fails : tie.Need-sub-fails Inv-loop μ-loop
-sub-fails c = omega (arith, c .before .string-end .ensures .1)
-
-part-fails-start : tie.Need-part-fails-start Inv-loop μ-loop
-part-fails-start c = omega (arith, c .before .string-end .ensures .1, c .before .string-end .ensures .2 (omega arith))
-
-part-fails-end : tie.Need-part-fails-end Inv-loop μ-loop
-part-fails-end c = omega (arith, c .before .string-end .ensures .1, c .before .string-end .ensures .2 (omega arith))
-
-fails-requires : tie.Need-fails-requires Inv-loop μ-loop
-fails-requires c κs = search needs
-
-array-write-at : tie.Need-array-write-at Inv-loop μ-loop
-array-write-at c = search needs
-
-add-from : tie.Need-add-from Inv-loop μ-loop
-add-from c = let h = c .before .before .before .string-end .ensures .2 (omega arith) in let n = c .before .before .if2 .left in omega arith
-
-add-i : tie.Need-add-i Inv-loop μ-loop
-add-i c = search needs
-
-loop-less : tie.Need-loop-less Inv-loop μ-loop
-loop-less c = search needs
-
-loop-again : tie.Need-loop-again Inv-loop μ-loop
-loop-again c = let l = c .before .before .before .before .before .before .loop in let a = c .before .before .before .before .before .before .before .before .before .before .args in let h = c .before .before .before .string-end .ensures .2 (omega arith) in let n = c .before .before .if2 .left in (omega arith, search needs, marked-on (patternAt (range (a .first) (a .last)) (a .pattern .now)) (a .args .now) (l .at) (l .from) (l .i) _ (c .before .before .before .string-end .ensures .0) (omega arith) (omega arith) (c .fails .ensures) ∙ l .inv .2)
-
-returns-3 : tie.Need-returns-3 Inv-loop μ-loop
-returns-3 c = let l = c .before .loop in let a = c .before .before .before .before .before .args in marked-full (patternAt (range (a .first) (a .last)) (a .pattern .now)) (a .args .now) (l .at) (l .from) (l .i) (omega arith) ∙ l .inv .2
+returns-2 : tie.Need-returns-2
+returns-2 c = let a = c .before .before .before .args in none-of (a .value .now) (a .setting) (stringsIn (a .args .now)) (a .self .at) (c .match .keys2)
 
 pub add-spec : {M : Type 1} → statement M
-add-spec =
-    tie.close
-    (tie.spec
-    Inv-loop
-    μ-loop
-    loop-holds
-    returns
-    string-end-requires
-    returns-2
-    array-read-fails
-    add-fails
-    sub-fails
-    part-fails-start
-    part-fails-end
-    fails-requires
-    array-write-at
-    add-from
-    add-i
-    loop-less
-    loop-again
-    returns-3)
+add-spec = tie.close (tie.spec enum-known-setting mark-requires returns returns-2)

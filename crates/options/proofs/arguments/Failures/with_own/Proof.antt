@@ -4,12 +4,12 @@ use native.Mathlib.Omega.{arith}
 use borrow.Author.Needs.{needs}
 use lib.ListN.{length}
 use Rattle.options.proofs.ArgumentLaws.{joinedFrom, joined-on, joined-end}
-use Rattle.options.specs.Arguments.{joined}
+use Rattle.options.specs.Contract.{eitherFails}
 use Rattle.options.proofs.arguments.Failures.with_own.Statement.{statement}
 use Rattle.options.proofs.arguments.Failures.with_own.Tie as tie
 
 abbrev Inv-loop : tie.InvT-loop
-Inv-loop at₀ other i₀ at i = (i ≤ 64) × (length at ≡ 64) × (joinedFrom at other i ≡ joined at₀ other)
+Inv-loop at₀ other i₀ at i = (i ≤ 64) × (length at ≡ 64) × (joinedFrom at other i ≡ eitherFails at₀ other)
 
 abbrev μ-loop : tie.MeasureT-loop
 μ-loop at₀ other i₀ at i = 64 - i

@@ -1,5 +1,5 @@
 use mathlib.Core.Path.{refl}
-use Rattle.options.specs.Values.{idIn}
+use Rattle.options.specs.Contract.{idIn}
 use Rattle.options.proofs.ids.IdName.new.Statement.{statement}
 use Rattle.options.proofs.ids.IdName.new.Tie as tie
 

@@ -23,7 +23,7 @@ same-length : tie.Need-same-length
 same-length c = search needs
 
 returns : tie.Need-returns
-returns c = let l : length (c .before .before .before .before .before .before .before .before .before .args .self .bytes) ≡ 64 = search needs in put-given (c .before .before .before .before .before .before .before .before .before .args .self) l _ (c .before .before .before .before .before .if1 .taken) (c .before .before .before .before .before .before .at-most .ensures) (c .before .before .put-all .ensures)
+returns c = let l : length (c .before .before .before .before .before .before .before .before .before .args .self .bytes) ≡ 64 = search needs in put-given (c .before .before .before .before .before .before .before .before .before .args .self) l _ (c .before .before .before .before .before .if1 .taken) (c .before .before .before .before .before .before .at-most .ensures .0) (c .before .before .put-all .ensures)
 
 array-share-prefix-bytes-2 : tie.Need-array-share-prefix-bytes-2
 array-share-prefix-bytes-2 c = search needs

@@ -1,40 +1,31 @@
-use mathlib.Core.Bool.{_||_}
-use mathlib.Core.Path.{ap, _∙_}
+use Rattle.options.proofs.LineLaws.{noted-none, noted-one}
+use Rattle.options.specs.Contract.{settingIn}
+use lib.ListN.{length}
+use mathlib.Core.Path.{_≡_}
 use borrow.Author.Needs.{needs}
-use Rattle.options.specs.Values.{settingIn, givenIn}
-use Rattle.options.proofs.LineLaws.{added}
 use Rattle.options.proofs.line.LineOptions.add.Statement.{statement}
 use Rattle.options.proofs.line.LineOptions.add.Tie as tie
+use Rattle.options.proofs.line.LineOptions.add.Reads as reads
 
-has-requires : tie.Need-has-requires
-has-requires c κs = search needs
+number-requires : tie.Need-number-requires
+number-requires c κs = search needs
 
-is-shell-requires : tie.Need-is-shell-requires
-is-shell-requires c κs = search needs
+returns : tie.Need-returns
+returns c = λ v. let a = c .before .before .args in let l : length (a .self .stands) ≡ 8 = search needs in noted-none (a .self) (settingIn v (a .setting)) (c .before .number .ensures v) l (c .if1 .taken)
 
-only-read-requires : tie.Need-only-read-requires
-only-read-requires c κs = search needs
+array-read-again : tie.Need-array-read-again
+array-read-again c = search needs
 
-over-requires : tie.Need-over-requires
-over-requires c κs = search needs
+array-write-stands : tie.Need-array-write-stands
+array-write-stands c = search needs
 
 or-requires : tie.Need-or-requires
 or-requires c κs = search needs
 
-or-requires-2 : tie.Need-or-requires-2
-or-requires-2 c κs = search needs
-
-returns : tie.Need-returns
-returns c = let a = c .before .before .before .before .before .before .before .before .args in let t = a .text .now in added (givenIn (a .self)) (settingIn t (a .read)) (c .before .before .before .only-read .ensures) (c .before .before .over .ensures) (c .before .or .ensures ∙ ap (_||_ (a .self .shell)) (c .before .before .before .before .is-shell .ensures t)) (c .or2 .ensures ∙ ap (_||_ (a .self .twice)) (c .before .before .before .before .before .has .ensures t))
+returns-2 : tie.Need-returns-2
+returns-2 c = λ v. let a = c .before .before .before .before .args in noted-one (a .self) (settingIn v (a .setting)) (c .before .before .before .number .ensures v) (c .or .ensures)
 
 pub add-spec : {M : Type 1} → statement M
 add-spec =
     tie.close
-    (tie.spec
-    has-requires
-    is-shell-requires
-    only-read-requires
-    over-requires
-    or-requires
-    or-requires-2
-    returns)
+    (tie.spec number-requires returns array-read-again array-write-stands or-requires returns-2)

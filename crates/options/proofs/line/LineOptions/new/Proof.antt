@@ -1,13 +1,14 @@
-use borrow.Author.Needs.{needs}
-use Rattle.options.proofs.LineLaws.{none-given}
+use Rattle.options.specs.Contract.{standing, lineOf}
+use Rattle.options.specs.Read.{twice}
+use Rattle.text.specs.Lists.{any}
+use mathlib.Core.Path.{refl}
 use Rattle.options.proofs.line.LineOptions.new.Statement.{statement}
 use Rattle.options.proofs.line.LineOptions.new.Tie as tie
-
-new-requires : tie.Need-new-requires
-new-requires c κs = search needs
+use Rattle.options.proofs.line.LineOptions.new.Reads as reads
 
 returns : tie.Need-returns
-returns c = none-given _ (c .new .ensures)
+unfolding lineOf standing any twice
+returns c = refl
 
 pub new-spec : {M : Type 1} → statement M
-new-spec = tie.close (tie.spec new-requires returns)
+new-spec = tie.close (tie.spec returns)

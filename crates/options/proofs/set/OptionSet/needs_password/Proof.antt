@@ -1,6 +1,6 @@
 use mathlib.Core.Path.{_∙_}
 use borrow.Author.Needs.{needs}
-use Rattle.options.specs.Values.{optionsIn}
+use Rattle.options.specs.Contract.{optionsIn}
 use Rattle.options.proofs.SetLaws.{password-of}
 use Rattle.options.proofs.set.OptionSet.needs_password.Statement.{statement}
 use mir.Syntax.{w32}

@@ -1,14 +1,16 @@
-use borrow.Author.Needs.{needs}
+use Rattle.options.specs.Contract.{optionsIn}
 use Rattle.options.specs.Options.{noOptions}
+use borrow.Author.Needs.{needs}
 use Rattle.options.proofs.set.OptionSet.new.Statement.{statement}
 use Rattle.options.proofs.set.OptionSet.new.Tie as tie
+use Rattle.options.proofs.set.OptionSet.new.Reads as reads
 
-no-ids-requires : tie.Need-no-ids-requires
-no-ids-requires c κs = search needs
+new-requires : tie.Need-new-requires
+new-requires c κs = search needs
 
 returns : tie.Need-returns
-unfolding noOptions
-returns c = c .no-ids .ensures
+unfolding optionsIn noOptions
+returns c = rw (c .new .ensures)
 
 pub new-spec : {M : Type 1} → statement M
-new-spec = tie.close (tie.spec no-ids-requires returns)
+new-spec = tie.close (tie.spec new-requires returns)

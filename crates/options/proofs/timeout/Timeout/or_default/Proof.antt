@@ -1,5 +1,5 @@
 use borrow.Author.Needs.{needs}
-use Rattle.options.proofs.SetLaws.{timeout-set, timeout-unset}
+use Rattle.options.proofs.TimeoutLaws.{timeout-set, timeout-unset}
 use Rattle.options.proofs.timeout.Timeout.or_default.Statement.{statement}
 use Rattle.options.proofs.timeout.Timeout.or_default.Tie as tie
 

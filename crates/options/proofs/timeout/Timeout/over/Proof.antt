@@ -1,3 +1,4 @@
+use mathlib.Core.Option.{orElse}
 use borrow.Author.Needs.{needs}
 use Rattle.options.proofs.SetLaws.{timeout-kept}
 use Rattle.options.proofs.timeout.Timeout.over.Statement.{statement}
@@ -10,6 +11,7 @@ enum-known-self : tie.Need-enum-known-self
 enum-known-self c = search needs
 
 returns : tie.Need-returns
+unfolding orElse
 returns c = search needs
 
 returns-2 : tie.Need-returns-2
