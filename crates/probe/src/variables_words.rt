@@ -129,7 +129,15 @@ fn put_text(
 ) -> usize {
     let mut text = [0u8; 1024];
     let count = vars.count;
-    match field_text(&vars.bytes, &vars.sizes, count, user, host, field, &mut text) {
+    match field_text(
+        &vars.bytes,
+        &vars.sizes,
+        count,
+        user,
+        host,
+        field,
+        &mut text,
+    ) {
         FieldText::Text(k) => put_bytes(out, n, first_bytes(&text, k)),
         FieldText::Fault(cause) => put_fault(cause, out, n),
     }
@@ -170,7 +178,11 @@ fn put_known(
 ) -> usize {
     if !is_built_in(name) {
         let count = vars.count;
-        return put_found(Variables::lookup(&vars.bytes, &vars.sizes, count, name), out, n);
+        return put_found(
+            Variables::lookup(&vars.bytes, &vars.sizes, count, name),
+            out,
+            n,
+        );
     }
     let mut field = [0u8; 16];
     let dollar = put(&mut field, 0, b"$");

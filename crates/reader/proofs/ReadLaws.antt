@@ -8,7 +8,7 @@ use Rattle.text.specs.Bytes.{bytes}
 use Rattle.text.specs.Lists.{null}
 use Rattle.text.specs.Slice.{same}
 use Rattle.fault.specs.declared.Cause.{Cause}
-use Rattle.fault.specs.declared.Cause.the-variants.{ColonWord, EntryTooEarly, MissingPart, OptionTwice, TooManyNames}
+use Rattle.fault.specs.declared.Cause.the-variants.{ColonWord, EntryTooEarly, MissingPart, OptionTwice}
 use Rattle.fault.specs.Fault.{Reading, fault, value, readAll}
 use Rattle.fault.proofs.Readings.{never, same-value, and-then, required}
 use Rattle.line.specs.declared.kind.LineKind.{LineKind}

@@ -7,18 +7,18 @@ use Prim.Native.Nat.{ℕ, _+_, _-_, _≤_, _<_, min}
 use native.Mathlib.Omega.{arith}
 use native.Mathlib.Nat.{add-zero, zero-add}
 use native.Mathlib.Decide.{decLe}
-use borrow.Author.Tests.{eq-eqb, ne-eqb, le-leb, lt-leb}
-use lib.Dec.{eqb}
-use lib.ListN.{length, take, drop, getD, drop-of-length-le, length-append, length-drop}
+use borrow.Author.Tests.{le-leb, lt-leb}
+use lib.ListN.{length, take, drop, getD, length-append, length-drop}
 use lib.Seq.{drop-drop}
-use Rattle.text.specs.Buffer.{laid, Wrote}
+use Rattle.text.specs.Contract.{laid, Wrote}
 use Rattle.text.specs.Quote.{quotingAfter}
 use Rattle.text.specs.Slice.{headIs}
 use Rattle.text.specs.declared.buffer.Filled.{Filled}
 use Rattle.text.specs.declared.buffer.Filled.the-variants.{Done, Full}
 use Rattle.text.specs.declared.quote.Quoting.{Quoting}
 use Rattle.text.specs.declared.quote.Quoting.the-variants.{Outside}
-use Rattle.text.proofs.Laws.{next, clash, part-rest}
+use Rattle.text.proofs.Laws.{clash, part-rest}
+use Rattle.text.proofs.Slices.{head-is}
 use Rattle.text.proofs.Buffers.{laid-append, laid-past, laid-length, wrote-done, up-full}
 use Rattle.fault.specs.Fault.{Reading, fault, value}
 use Rattle.fault.specs.declared.Cause.{Cause}
@@ -56,46 +56,25 @@ module _ (q : Quoting) (b : ℕ) {old new : List ℕ} {n k : ℕ} where
 pub lays-length : {old new : List ℕ} {n k : ℕ} {xs : List ℕ} → Lays old new n xs k → (length new ≡ length old) × (k ≤ 1025)
 lays-length {old} {n = n} {xs = xs} w = (ap length (w .bytes) ∙ laid-length old n xs, omega (arith, w .count))
 
--- ---- a name's place behind `$`: nothing there, a name, a name in brackets, an open bracket
-pub place-none : (r : List ℕ) → length r ≡ 0 → Places r Missing
-unfolding reference
-place-none [] h = record { refer = λ s. refl; inside = tt }
-place-none (b ∷ r) h = absurd (omega arith)
+-- ---- a name's place behind `$`: a name, a name in brackets, an open bracket
+module _ (r : List ℕ) (w : ℕ) where
+  pub place-plain : headIs 40 r ≡ false → w ≡ length (word r) → w ≤ length r → Places r (Name 0 w w)
+  unfolding reference
+  place-plain t e h = let z : w - 0 ≡ length (word r) = omega arith in record { refer = λ s. rw (t, z, word-take r, e); inside = (omega arith, h, h) }
 
-pub place-plain : (r : List ℕ) (w : ℕ) → (length r ≡ 0 → ⊥) → (getD r 0 0 ≡ 40 → ⊥) → w ≡ length (word r) → w ≤ length r → Places r (Name 0 w w)
-unfolding reference
-place-plain [] w h k e m = absurd (h refl)
-place-plain (b ∷ r) w h k e m =
-    let z : w - 0 ≡ length (word (b ∷ r)) = omega arith in
-    record { refer = λ s. rw (ne-eqb b 40 k, z, word-take (b ∷ r), e); inside = (omega arith, m, m) }
+  module _ (t : headIs 40 r ≡ true) (e : w ≡ length (word (drop 1 r))) where
+    pub place-closed : headIs 41 (drop w (drop 1 r)) ≡ true → Places r (Name 1 (w + 1) (w + 2))
+    unfolding reference bracketed
+    place-closed c =
+        let z : w + 1 - 1 ≡ length (word (drop 1 r)) = omega arith in
+        let u : headIs 41 (drop (length (word (drop 1 r))) (drop 1 r)) ≡ true = rw (← e) c in
+        let h = head-is 41 (drop w (drop 1 r)) c .0 in
+        let k : w + 2 ≤ length r = omega (arith, h, length-drop w (drop 1 r), length-drop 1 r) in
+        record { refer = λ s. rw (t, u, z, word-take (drop 1 r), e); inside = (omega arith, omega arith, k) }
 
-head-at : (d : ℕ) (s : List ℕ) (i : ℕ) → i < length s → headIs d (drop i s) ≡ eqb (getD s i 0) d
-unfolding headIs
-head-at d s i h = rw (next s i)
-
-head-past : (d : ℕ) (s : List ℕ) (i : ℕ) → length s ≤ i → headIs d (drop i s) ≡ false
-unfolding headIs
-head-past d s i h = rw (drop-of-length-le s)
-
-pub place-closed : (r : List ℕ) (w : ℕ) → (length r ≡ 0 → ⊥) → getD r 0 0 ≡ 40 → w ≡ length (word (drop 1 r)) → w < length (drop 1 r) → getD (drop 1 r) w 0 ≡ 41 → Places r (Name 1 (w + 1) (w + 2))
-unfolding reference bracketed
-place-closed [] w h k e m c = absurd (h refl)
-place-closed (b ∷ r) w h k e m c =
-    let z : w + 1 - 1 ≡ length (word r) = omega arith in
-    let t : headIs 41 (drop (length (word r)) r) ≡ true = rw (← e) (head-at 41 r w m ∙ eq-eqb _ _ c) in
-    record { refer = λ s. rw (eq-eqb b 40 k, t, z, word-take r, e); inside = (omega arith, omega arith, omega arith) }
-
--- no bracket closes it
-place-missing : (r : List ℕ) (w : ℕ) → (length r ≡ 0 → ⊥) → getD r 0 0 ≡ 40 → w ≡ length (word (drop 1 r)) → headIs 41 (drop w (drop 1 r)) ≡ false → Places r Missing
-unfolding reference bracketed
-place-missing [] w h k e t = absurd (h refl)
-place-missing (b ∷ r) w h k e t = let u : headIs 41 (drop (length (word r)) r) ≡ false = rw (← e) t in record { refer = λ s. rw (eq-eqb b 40 k, u); inside = tt }
-
-pub place-other : (r : List ℕ) (w : ℕ) → (length r ≡ 0 → ⊥) → getD r 0 0 ≡ 40 → w ≡ length (word (drop 1 r)) → w < length (drop 1 r) → (getD (drop 1 r) w 0 ≡ 41 → ⊥) → Places r Missing
-place-other r w h k e m c = place-missing r w h k e (head-at 41 (drop 1 r) w m ∙ ne-eqb _ _ c)
-
-pub place-open : (r : List ℕ) (w : ℕ) → (length r ≡ 0 → ⊥) → getD r 0 0 ≡ 40 → w ≡ length (word (drop 1 r)) → length (drop 1 r) ≤ w → Places r Missing
-place-open r w h k e m = place-missing r w h k e (head-past 41 (drop 1 r) w m)
+    pub place-open : headIs 41 (drop w (drop 1 r)) ≡ false → Places r Missing
+    unfolding reference bracketed
+    place-open c = let u : headIs 41 (drop (length (word (drop 1 r))) (drop 1 r)) ≡ false = rw (← e) c in record { refer = λ s. rw (t, u); inside = tt }
 
 -- ---- a reference replaced
 pub refers-known : (taken : ℕ) {o : Option (List ℕ)} {n : ℕ} {old new t : List ℕ} {m : ℕ} → o ≡ some t → Lays old new n t m → Refers (substitution taken o) n old new (Known taken m)

@@ -1,8 +1,8 @@
 -- The text of a field byte by byte, and the word that a reference has. Assumes nothing.
-use mathlib.Core.Path.{_≡_, refl, sym, ap, _∙_}
+use mathlib.Core.Path.{_≡_, refl, ap, _∙_}
 use mathlib.Core.Bool.{Bool, true, false, cond}
 use mathlib.Core.List.{List, [], _∷_, _++_}
-use mathlib.Core.Option.{Option, none, some}
+use mathlib.Core.Option.{none, some}
 use Prim.Native.Nat.{ℕ, zero, suc, _+_, _≤_, _<_}
 use native.Mathlib.Omega.{arith}
 use borrow.Author.Tests.{eqb-true}
@@ -11,13 +11,14 @@ use Rattle.text.specs.Class.{wordByte}
 use Rattle.text.specs.Quote.{quotingAfter}
 use Rattle.text.specs.declared.quote.Quoting.{Quoting}
 use Rattle.text.specs.declared.quote.Quoting.the-variants.{Outside, Single, Double}
-use Rattle.text.proofs.Laws.{next, clash}
-use Rattle.fault.specs.Fault.{Reading, fault, value, andThen, needed}
+use Rattle.text.proofs.Laws.{next}
+use Rattle.fault.proofs.Readings.{same-value, and-then, was-needed}
+use Rattle.fault.specs.Fault.{Reading, fault, value, andThen}
 use Rattle.fault.specs.declared.Cause.{Cause}
 use Rattle.fault.specs.declared.Cause.the-variants.{Variable}
 use Rattle.variables.specs.Scope.{Scope}
 use Rattle.variables.specs.Substitute.{Substitution, stays, refers, word, reference, substitute, substituted}
-use Rattle.variables.specs.Contract.{textThen, upToBad}
+use Rattle.variables.specs.Contract.{upToBad}
 
 -- the word that the bytes begin with, byte by byte
 module _ (s : List ℕ) (i : ℕ) where
@@ -91,18 +92,12 @@ module _ (s : Scope) (q : Quoting) (f : List ℕ) (i : ℕ) where
   unfolding substituted upToBad
   text-end h = record { whole = rw (drop-of-length-le f); part = rw (drop-of-length-le f) }
 
-behind-told : (xs u : List ℕ) (r : Reading Cause (List ℕ)) → behind xs r ≡ value u → (v : List ℕ) × (r ≡ value v) × (u ≡ xs ++ v)
-behind-told xs u (fault c) e = clash cc
-behind-told xs u (value v) e = (v, refl, cc)
-
 -- where nothing is bad, the text up to a bad `$` is all of it
 pub text-whole : (s : Scope) (q : Quoting) (n : ℕ) (f t : List ℕ) → substituted s q n f ≡ value t → upToBad s q n f ≡ t
 unfolding substituted upToBad
-text-whole s q n [] t e = cc
+text-whole s q n [] t e = same-value e
 text-whole s q (suc n) (b ∷ r) t e = text-whole s q n r t e
-text-whole s q zero (b ∷ r) t e = go (substitute (refers q b) s q b r) e (λ k v. text-whole s (quotingAfter q b) k r v)
-  where
-    go : (o : Option Substitution) → needed Variable o (λ x. behind (x .text) (substituted s (quotingAfter q b) (x .taken) r)) ≡ value t →
-        ((k : ℕ) (v : List ℕ) → substituted s (quotingAfter q b) k r ≡ value v → upToBad s (quotingAfter q b) k r ≡ v) → textThen o (λ x. upToBad s (quotingAfter q b) (x .taken) r) ≡ t
-    go none e rec = clash cc
-    go (some x) e rec = let d = behind-told (x .text) t (substituted s (quotingAfter q b) (x .taken) r) e in ap (λ (v : List ℕ). x .text ++ v) (rec (x .taken) (d .0) (d .1)) ∙ sym (d .2)
+text-whole s q zero (b ∷ r) t e =
+    let d = was-needed Variable (substitute (refers q b) s q b r) _ t e in
+    let g = and-then (substituted s (quotingAfter q b) (d .0 .taken) r) _ t (d .2) in
+    rw (d .1) (ap (λ (v : List ℕ). d .0 .text ++ v) (text-whole s (quotingAfter q b) (d .0 .taken) r (g .0) (g .1)) ∙ same-value (g .2))

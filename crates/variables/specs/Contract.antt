@@ -6,7 +6,8 @@ use mathlib.Core.Option.{Option, none, some}
 use Prim.Native.Nat.{ℕ, zero, suc, _+_, _*_, _-_, _≤_, _<_, min}
 use lib.Dec.{leb}
 use lib.ListN.{length, take, drop, getD}
-use Rattle.text.specs.Buffer.{laid}
+use Rattle.text.specs.Contract.{laid}
+use Rattle.text.specs.Limits.{fieldLimit}
 use Rattle.text.specs.Lists.{all}
 use Rattle.text.specs.Quote.{quotingAfter}
 use Rattle.text.specs.Slice.{same}
@@ -31,7 +32,7 @@ use Rattle.variables.specs.declared.field.Referred.{Referred}
 use Rattle.variables.specs.declared.field.Referred.the-variants.{Known, Bad}
 use Rattle.variables.specs.Scope.{Definition, definition, Scope, nameText}
 use Rattle.variables.specs.Define.{nameLimit, textLimit, namesLimit, defineName, defineText, defineIn}
-use Rattle.variables.specs.Substitute.{Substitution, substitution, stays, refers, reference, substitute, substituted, fieldLimit, fieldText}
+use Rattle.variables.specs.Substitute.{Substitution, substitution, stays, refers, reference, substitute, substituted, fieldText}
 use Rattle.variables.specs.declared.DefineOutcome.the-variants.{Stored, Fault as NotStored}
 use Rattle.variables.specs.declared.definition.Checked.the-variants.{Good, Fault as NotGood}
 use Rattle.variables.specs.declared.field.FieldText.the-variants.{Text, Fault as NoText}
