@@ -2,7 +2,6 @@
 use mathlib.Core.Path.{_≡_, refl, sym, ap, _∙_}
 use mathlib.Core.Bool.{Bool, true, false, not, _&&_, _||_}
 use mathlib.Core.List.{List, [], _∷_, _++_, append-nil}
-use mathlib.Core.Option.{some}
 use Prim.Native.Nat.{ℕ, zero, suc, _+_, _-_, _≤_, _<_}
 use native.Mathlib.Omega.{arith}
 use native.Mathlib.Numerals.{add-one}
@@ -22,8 +21,8 @@ use Rattle.text.specs.Class.{Range, range}
 use Rattle.options.specs.Arguments.{ArgumentPattern, passes, argumentsFrom, argumentsPass, inForce}
 use Rattle.options.specs.Contract.{settingIn, patternAt, failuresFrom, failures, failuresWith, failuresAfter, eitherFails}
 use Rattle.options.specs.declared.Id.the-variants.{Uid, Euid, Gid, Egid}
-use Rattle.options.specs.declared.read.OptionSetting.{OptionSetting}
-use Rattle.options.specs.declared.read.OptionSetting.the-variants.{SetId, SetAuth, SetTimeout, SetNargs, SetArgument, SetShell}
+use Rattle.options.specs.declared.setting.OptionSetting.{OptionSetting}
+use Rattle.options.specs.declared.setting.OptionSetting.the-variants.{SetId, SetAuth, SetTimeout, SetNargs, SetArgument, SetShell}
 
 -- one argument and one pattern
 module _ (k m n : ℕ) (p a : List ℕ) {b : Bool} (e : b ≡ false) where

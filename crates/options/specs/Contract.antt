@@ -1,9 +1,9 @@
 -- What the values of the code stand for, and what is kept of a line's settings while its fields are read: cited by contracts and proofs only.
-use Prim.Native.Nat.{ℕ, zero, suc, _+_}
 use mathlib.Core.Path.{_≡_}
 use mathlib.Core.Bool.{Bool, true, false, not, cond, _||_}
 use mathlib.Core.List.{List, [], _∷_}
 use mathlib.Core.Option.{Option, none, some}
+use Prim.Native.Nat.{ℕ, zero, suc, _+_}
 use lib.IntN.{ℤ}
 use lib.ListN.{take, getD, set}
 use Rattle.text.specs.Bytes.{byte}
@@ -21,19 +21,19 @@ use Rattle.options.specs.declared.ids.IdName.{IdName}
 use Rattle.options.specs.declared.line.LineOptions.{LineOptions}
 use Rattle.options.specs.declared.read.OptionRead.{OptionRead}
 use Rattle.options.specs.declared.read.OptionRead.the-variants.{NotOption, Faulty, Set}
-use Rattle.options.specs.declared.read.OptionSetting.{OptionSetting}
-use Rattle.options.specs.declared.read.OptionSetting.the-variants.{SetId, SetAuth, SetTimeout, SetNargs, SetArgument, SetShell}
+use Rattle.options.specs.declared.setting.OptionSetting.{OptionSetting}
+use Rattle.options.specs.declared.setting.OptionSetting.the-variants.{SetId, SetAuth, SetTimeout, SetNargs, SetArgument, SetShell}
 use Rattle.options.specs.declared.set.Auth.{Auth}
 use Rattle.options.specs.declared.set.Auth.the-variants.{Unset, Yes, No}
 use Rattle.options.specs.declared.set.OptionSet.{OptionSet}
-use Rattle.options.specs.declared.set.Part.{Part}
+use Rattle.options.specs.declared.setting.Part.{Part}
 use Rattle.options.specs.declared.span.Span.{Span}
 use Rattle.options.specs.declared.span.Span.the-variants.{Nothing, Between}
 use Rattle.options.specs.declared.timeout.Timeout.{Timeout}
-use Rattle.options.specs.declared.timeout.Timeout.the-variants.{Unset as NoTimeout, Minutes}
 use Rattle.options.specs.Options.{Options}
 use Rattle.options.specs.Arguments.{ArgumentPattern, passes}
 use Rattle.options.specs.Read.{Setting, idLimit, lastPosition, setId, setAuth, setTimeout, setNargs, setShell, setArgument, isOption, twice}
+use Rattle.options.specs.declared.timeout.Timeout.the-variants.{Unset as NoTimeout, Minutes}
 
 -- a range, or none
 abbrev pub spanIn : Span → Option Range

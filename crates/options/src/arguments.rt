@@ -1,6 +1,6 @@
 // Which arguments fail an argument pattern: nothing of the patterns is kept but this.
 use super::or;
-use super::read::OptionSetting;
+use super::setting::OptionSetting;
 use pattern::Kind;
 use pattern::matcher::matches_pattern;
 use question::strings::string_end;

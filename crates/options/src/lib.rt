@@ -9,6 +9,7 @@ pub mod ids; // user and group names in options
 pub mod line; // which options stand on a line
 pub mod read; // one option from a field's text
 pub mod set; // the options that hold one setting, and one set of them laid over another
+pub mod setting; // what an option sets
 pub mod span; // ranges of numbers
 pub mod timeout; // the value of a timeout
 

@@ -1,6 +1,6 @@
 // Which options stand on a line.
 use super::or;
-use super::read::OptionSetting;
+use super::setting::OptionSetting;
 ghost use Prim.Native.Nat.{ℕ};
 ghost use mathlib.Core.Path.{_≡_};
 ghost use mathlib.Core.Bool.{false};

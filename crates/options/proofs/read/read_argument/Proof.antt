@@ -1,6 +1,6 @@
-use Rattle.options.proofs.ReadLaws.{argument-none, argument-bad, argument-good, argument-large}
 use mathlib.Core.Path.{sym, _∙_}
 use borrow.Author.Needs.{needs}
+use Rattle.options.proofs.ReadLaws.{argument-none, argument-bad, argument-good, argument-large}
 use Rattle.options.proofs.read.read_argument.Statement.{statement}
 use Rattle.options.proofs.read.read_argument.Tie as tie
 

@@ -1,11 +1,10 @@
-use Rattle.options.proofs.LineLaws.{noted-none, noted-one}
-use Rattle.options.specs.Contract.{settingIn}
-use lib.ListN.{length}
 use mathlib.Core.Path.{_≡_}
 use borrow.Author.Needs.{needs}
+use lib.ListN.{length}
+use Rattle.options.proofs.LineLaws.{noted-none, noted-one}
+use Rattle.options.specs.Contract.{settingIn}
 use Rattle.options.proofs.line.LineOptions.add.Statement.{statement}
 use Rattle.options.proofs.line.LineOptions.add.Tie as tie
-use Rattle.options.proofs.line.LineOptions.add.Reads as reads
 
 number-requires : tie.Need-number-requires
 number-requires c κs = search needs

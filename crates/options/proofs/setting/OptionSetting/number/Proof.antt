@@ -1,6 +1,6 @@
 use borrow.Author.Needs.{needs}
-use Rattle.options.proofs.read.OptionSetting.number.Statement.{statement}
-use Rattle.options.proofs.read.OptionSetting.number.Tie as tie
+use Rattle.options.proofs.setting.OptionSetting.number.Statement.{statement}
+use Rattle.options.proofs.setting.OptionSetting.number.Tie as tie
 
 part-requires : tie.Need-part-requires
 part-requires c κs = search needs
