@@ -89,17 +89,17 @@ failures-of v xs fs e h = rw e h
 
 -- the loop that joins two lists of failures
 module _ (at other : List Bool) (i : ℕ) where
-  abbrev pub joinedFrom : List Bool
-  joinedFrom = take i at ++ eitherFails (drop i at) (drop i other)
+  abbrev pub eitherFrom : List Bool
+  eitherFrom = take i at ++ eitherFails (drop i at) (drop i other)
 
-  pub joined-end : length at ≤ i → length other ≤ i → at ≡ joinedFrom
+  pub either-end : length at ≤ i → length other ≤ i → at ≡ eitherFrom
   unfolding eitherFails
-  joined-end h k = sym (rw (drop-of-length-le at h, drop-of-length-le other k, take-all i at h) (append-nil at))
+  either-end h k = sym (rw (drop-of-length-le at h, drop-of-length-le other k, take-all i at h) (append-nil at))
 
-  pub joined-on : i < length at → i < length other → {b : Bool} → b ≡ getD at i false || getD other i false
-      → take (i + 1) (set at i b) ++ eitherFails (drop (i + 1) (set at i b)) (drop (i + 1) other) ≡ joinedFrom
+  pub either-on : i < length at → i < length other → {b : Bool} → b ≡ getD at i false || getD other i false
+      → take (i + 1) (set at i b) ++ eitherFails (drop (i + 1) (set at i b)) (drop (i + 1) other) ≡ eitherFrom
   unfolding eitherFails
-  joined-on h k {b} q =
+  either-on h k {b} q =
       rw (stored-front at i b h, stored-back at i b h, next-of false at i h, next-of false other i k, ← q)
       (append-one (take i at) b (eitherFails (drop (i + 1) at) (drop (i + 1) other)))
 

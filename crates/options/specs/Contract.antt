@@ -40,11 +40,13 @@ abbrev pub spanIn : Span → Option Range
 spanIn Nothing = none
 spanIn (Between m n) = some (range m n)
 
+-- auth, or none
 abbrev pub authIn : Auth → Option Bool
 authIn Unset = none
 authIn Yes = some true
 authIn No = some false
 
+-- a timeout, or none
 abbrev pub timeoutIn : Timeout → Option ℤ
 timeoutIn NoTimeout = none
 timeoutIn (Minutes m) = some m
@@ -72,6 +74,7 @@ idAt o Euid = o .euid
 idAt o Gid = o .gid
 idAt o Egid = o .egid
 
+-- what stands behind the byte that parts
 abbrev pub backOf : Option Parts → List ℕ
 backOf none = []
 backOf (some p) = p .back

@@ -22,7 +22,7 @@ pub enum Id {
 }
 
 impl Id {
-    // Its number among the options.
+    // Its number among the options, whatever its value.
     fn number(self) -> usize
         ensures { λ r. ⌜ r ≡ setId self [] .which ⌝ }
     {

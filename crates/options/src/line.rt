@@ -34,7 +34,8 @@ impl LineOptions {
     pub fn add(self, setting: OptionSetting) -> Self
         ensures { λ r. ⌜ ((v : List ℕ) → r ≡ noted self (settingIn v setting)) ⌝ }
     {
-        let number = setting.number();
+        let part = setting.part();
+        let number = part.0;
         if number >= LineOptions::OPTIONS {
             return self;
         }

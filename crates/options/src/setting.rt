@@ -4,7 +4,6 @@ use super::set::Auth;
 use super::span::Span;
 use super::timeout::Timeout;
 ghost use Prim.Native.Nat.{ℕ};
-ghost use mathlib.Core.Path.{_≡_};
 ghost use mathlib.Core.List.{List};
 ghost use Rattle.options.specs.Contract.{settingIn, PartOf};
 
@@ -50,13 +49,5 @@ impl OptionSetting {
             OptionSetting::SetShell => Part(7, Auth::Unset, Timeout::Unset, Span::Nothing),
             OptionSetting::SetArgument(_, _) => Part(8, Auth::Unset, Timeout::Unset, Span::Nothing),
         }
-    }
-
-    // The number of its option.
-    pub fn number(self) -> usize
-        ensures { λ r. ⌜ ((v : List ℕ) → r ≡ settingIn v self .which) ⌝ }
-    {
-        let part = self.part();
-        part.0
     }
 }
