@@ -1,4 +1,3 @@
-pub mod Decides
-pub mod Cut
-pub mod Buffer
+pub mod CutLaws
+pub mod MeaningLaws
 pub mod Worked

@@ -1,59 +1,17 @@
 -- The worked table of 01 and its cases, "Proved together (P)": one statement, computed. Assumes nothing.
-use Prim.Native.Nat.{ℕ, _+_}
 use mathlib.Core.Path.{_≡_, refl}
-use mathlib.Core.Bool.{Bool, true, false}
+use mathlib.Core.Bool.{true, false}
 use mathlib.Core.List.{List, [], _∷_, _++_, map}
-use mathlib.Core.Option.{orElse}
+use Prim.Native.Nat.{ℕ, _+_}
 use lib.IntN.{ℤ, pos, negsuc}
 use lib.ListN.{length, take, drop, replicate}
 use Rattle.text.specs.Bytes.{bytes}
-use Rattle.question.specs.declared.Age.{Age}
-use Rattle.question.specs.declared.WeekMinute.{WeekMinute}
 use Rattle.question.specs.declared.LastAuthentication.{LastAuthentication}
-use Rattle.question.specs.declared.LastAuthentication.the-variants.{Never, Minutes as AgeMinutes}
 use Rattle.options.specs.declared.timeout.Timeout.the-variants.{Unset, Minutes}
 use Rattle.options.specs.declared.span.Span.the-variants.{Nothing}
-use Rattle.answer.specs.declared.Granted.{Granted}
-use Rattle.answer.specs.declared.Answer.{Answer}
-use Rattle.answer.specs.declared.Answer.the-variants.{Permit, Password, NoEntry, CutShort}
-use Rattle.answer.specs.Meaning.{Asked, Outcome, result}
-use Rattle.answer.specs.Answer.{toldOf, isDecision, decidingLine}
-use Rattle.answer.specs.Meaning.{strings, overlaid, grantedBy, step as answer-Meaning-step, verdict as answer-Meaning-verdict, answerOf}
-use Rattle.entry.specs.Entry.{fieldsFrom as entry-Entry-fieldsFrom, completed, entryOf, starred, pathFor, conditionsAccept}
-use Rattle.entry.specs.Piece.{noField, followed, expanded, pathOf, hasPair, pairOf, commandOf, fullPathOf, prefixed, unnegated, userMarks, timeMarks, otherOf, pieceOf}
-use Rattle.entry.specs.Users.{userApplies, groupApplies, decidedBy, usersAccept}
-use Rattle.entry.specs.Verdict.{verdictOn, verdictOf}
-use Rattle.fault.specs.Fault.{numberOf as fault-Fault-numberOf, readAll}
-use Rattle.line.specs.Fold.{run, outcome}
-use Rattle.line.specs.Joined.{markOf as line-Joined-markOf, modeAfter, joinMarks, modeJoined, needsIndent, startAt, given as line-Joined-given, after as line-Joined-after, lastMarks, bareAtEnd, marks, endState}
-use Rattle.line.specs.Kind.{kindOf}
-use Rattle.line.specs.Line.{lines, endsAt, cutShort}
-use Rattle.line.specs.Refused.{accepted, refusedFrom, refusedByte}
-use Rattle.line.specs.Scan.{openQuote, fieldsFrom as line-Scan-fieldsFrom, verdict as line-Scan-verdict, scanned}
-use Rattle.options.specs.Arguments.{passes, argumentsFrom, argumentsPass, inForce}
-use Rattle.options.specs.Options.{noOptions, over, nargsAllow}
-use Rattle.options.specs.Read.{numberRange, isId, idOf, authOf, timeoutOf, argumentOf, optionNamed, optionOf, optionsOf, argumentsOf, hasShell, twice}
-use Rattle.pattern.specs.Alternative.{next as pattern-Alternative-next, partsAt, partsOf, goodPart, alternativeOf}
-use Rattle.pattern.specs.Match.{signOf, items, escapedItems, behindSet, tails, matchItems, matches, matchesSome}
-use Rattle.pattern.specs.Set.{bodyOf, behind, reach, ranges, members, goodSet, listed, inSet}
-use Rattle.pattern.specs.Tree.{depth, number, joined as pattern-Tree-joined, expansions, fits, markOf as pattern-Tree-markOf, firstPiece, readPattern, readList, patternOf, listOf, treeOf, expanded as pattern-Tree-expanded}
-use Rattle.question.specs.Password.{fresh, passwordNeeded}
-use Rattle.question.specs.Question.{commandByte, goodComponent, goodCommand, goodName, goodGroups, goodArgument, goodArguments, goodQuestion, questionOf}
-use Rattle.question.specs.Strings.{stringsOf, stringsIn, untilZero}
-use Rattle.reader.specs.Colon.{defineName, defineText, defineLine, globalLine, operatorOf, ifLine, colonWord}
-use Rattle.reader.specs.Read.{entryLine, fieldsRead, lineCause, lineRead}
-use Rattle.reader.specs.State.{start as reader-State-start, withDefinition, withSettings, withEntry}
-use Rattle.text.specs.Class.{blank, letter, digit, wordByte, nameByte, printable, visible, classOf}
-use Rattle.text.specs.Lists.{all as text-Lists-all, any as text-Lists-any, count, firstFault, has, splitAt}
-use Rattle.text.specs.Number.{digits, numberOf as text-Number-numberOf}
-use Rattle.text.specs.Parts.{partAt}
-use Rattle.text.specs.Slice.{same, startsWith, headIs, findPair, findByte}
-use Rattle.times.specs.Clock.{hourOf, minuteOf, clockOf}
-use Rattle.times.specs.Day.{dayNames, lowerOf, shortens, dayAmong, dayOf}
-use Rattle.times.specs.Item.{compared, rangeOf as times-Item-rangeOf, spanOf, itemOf, onDay, inSpan, itemMatches, itemAnswer}
-use Rattle.times.specs.Rule.{rightmost, timesAccept, marked as times-Rule-marked, unmarked, markedAll}
-use Rattle.variables.specs.Scope.{lookup, define, tooMany, nameStart, isName, builtIn, textOf}
-use Rattle.variables.specs.Substitute.{quotingAfter, stays, refers, word as variables-Substitute-word, known, closed, reference, pieces, joined as variables-Substitute-joined, joinedUpToBad, substituted, fieldText}
+use Rattle.answer.specs.Answer.{Outcome, Beside, Told, told, granted, atLine, atPlace, toldBy}
+use Rattle.answer.specs.Meaning.{Asked, answerOf}
+use Rattle.question.specs.declared.LastAuthentication.the-variants.{Never, Minutes as AgeMinutes}
 
 table : List ℕ
 table =
@@ -66,10 +24,15 @@ table =
 buffer : List ℕ
 buffer = replicate 2048 255
 
+-- what is told, and what the buffer then holds
+pub record Seen : Type 0 where
+  pub told : Told
+  pub buffer : List ℕ
+
 pub record Case : Type 0 where
   pub cut : ℕ
   pub asked : Asked
-  pub expected : Outcome
+  pub expected : Seen
 
 -- without groups and arguments
 asks : List ℕ → List ℕ → List ℕ → ℕ → LastAuthentication → Asked
@@ -83,39 +46,44 @@ filled : List ℕ → List ℕ
 unfolding buffer
 filled path = path ++ 0 ∷ 0 ∷ 0 ∷ 0 ∷ 0 ∷ drop (length path + 5) buffer
 
-nothing : Outcome
+-- an answer that leaves the buffer
+plain : ℕ → Beside → Seen
 unfolding buffer
-nothing = result NoEntry buffer
+plain number beside = record { told = told number beside; buffer = buffer }
+
+nothing : Seen
+unfolding plain buffer
+nothing = plain 2 (atLine 0)
 
 clock : LastAuthentication → Asked
 unfolding asks
 clock age = asks (bytes "setclock") (bytes "ann") (bytes "van2") 1049 age
 
-clockSet : ((g : Granted) → Answer) → Outcome
+clockSet : ℕ → Seen
 unfolding filled buffer
-clockSet how = result (how record { line = 3; auth = true; timeout = Minutes (pos 15); nargs = Nothing; written = 19 }) (filled (bytes "/sbin/setclock"))
+clockSet number = record { told = told number (granted record { line = 3; path = bytes "/sbin/setclock"; uid = []; euid = []; gid = []; egid = []; auth = true; timeout = Minutes (pos 15); nargs = Nothing; written = 19 }); buffer = filled (bytes "/sbin/setclock") }
 
 log : List ℕ → List ℕ → ℕ → Asked
 unfolding asks
 log user host minute = asks (bytes "batlog") user host minute Never
 
-logged : Outcome
+logged : Seen
 unfolding filled buffer
-logged = result (Permit record { line = 4; auth = false; timeout = Unset; nargs = Nothing; written = 16 }) (filled (bytes "/opt/batlog"))
+logged = record { told = told 0 (granted record { line = 4; path = bytes "/opt/batlog"; uid = []; euid = []; gid = []; egid = []; auth = false; timeout = Unset; nargs = Nothing; written = 16 }); buffer = filled (bytes "/opt/batlog") }
 
-whole : Asked → Outcome → Case
+whole : Asked → Seen → Case
 unfolding table
 whole a o = record { cut = length table; asked = a; expected = o }
 
-cutAt : ℕ → Asked → Outcome → Case
+cutAt : ℕ → Asked → Seen → Case
 cutAt n a o = record { cut = n; asked = a; expected = o }
 
 pub cases : List Case
-unfolding table buffer asks ago filled nothing clock clockSet log logged whole cutAt
+unfolding table buffer asks ago filled plain nothing clock clockSet log logged whole cutAt
 cases =
-    whole (clock (ago (pos 15))) (clockSet Permit)
-    ∷ whole (clock (ago (pos 16))) (clockSet Password)
-    ∷ whole (clock (ago (negsuc 0))) (clockSet Password)
+    whole (clock (ago (pos 15))) (clockSet 0)
+    ∷ whole (clock (ago (pos 16))) (clockSet 1)
+    ∷ whole (clock (ago (negsuc 0))) (clockSet 1)
     ∷ whole (asks (bytes "setclock") (bytes "tmp") (bytes "van2") 1049 (ago (pos 15))) nothing
     ∷ whole (log (bytes "ann") (bytes "van2") 1049) nothing
     ∷ whole (log (bytes "ann") (bytes "van2") 1050) logged
@@ -125,18 +93,77 @@ cases =
     ∷ whole (log (bytes "ann") (bytes "van2") 1921) nothing
     ∷ whole (log (bytes "root") (bytes "van2") 1050) logged
     ∷ whole (log (bytes "root") (bytes "shop") 1050) logged
-    ∷ cutAt 100 (clock (ago (pos 15))) (result (CutShort 43) buffer)
-    ∷ cutAt 101 (clock (ago (pos 15))) (clockSet Permit)
-    ∷ cutAt 101 (clock (ago (pos 16))) (clockSet Password)
-    ∷ cutAt 101 (clock (ago (negsuc 0))) (clockSet Password)
+    ∷ cutAt 100 (clock (ago (pos 15))) (plain 13 (atPlace 43))
+    ∷ cutAt 101 (clock (ago (pos 15))) (clockSet 0)
+    ∷ cutAt 101 (clock (ago (pos 16))) (clockSet 1)
+    ∷ cutAt 101 (clock (ago (negsuc 0))) (clockSet 1)
     ∷ cutAt 101 (asks (bytes "setclock") (bytes "tmp") (bytes "van2") 1049 (ago (pos 15))) nothing
     ∷ cutAt 0 (clock (ago (pos 15))) nothing
     ∷ []
 
-pub given : Case → Outcome
-unfolding table buffer
-given c = answerOf (take (c .cut) table) (c .asked) buffer
+seen : Outcome → Seen
+seen o = record { told = toldBy o; buffer = o .buffer }
 
+pub given : Case → Seen
+unfolding table buffer seen
+given c = seen (answerOf (take (c .cut) table) (c .asked) buffer)
+
+-- the line below names every definition that the cases compute with
 pub worked : map given cases ≡ map (λ c. c .expected) cases
-unfolding table buffer asks ago filled nothing clock clockSet log logged whole cutAt cases given toldOf isDecision decidingLine strings overlaid grantedBy answer-Meaning-step answer-Meaning-verdict answerOf entry-Entry-fieldsFrom completed entryOf starred pathFor conditionsAccept noField followed expanded pathOf hasPair pairOf commandOf fullPathOf prefixed unnegated userMarks timeMarks otherOf pieceOf userApplies groupApplies decidedBy usersAccept verdictOn verdictOf fault-Fault-numberOf readAll run outcome line-Joined-markOf modeAfter joinMarks modeJoined needsIndent startAt line-Joined-given line-Joined-after lastMarks bareAtEnd marks endState kindOf lines endsAt cutShort accepted refusedFrom refusedByte openQuote line-Scan-fieldsFrom line-Scan-verdict scanned orElse passes argumentsFrom argumentsPass inForce noOptions over nargsAllow numberRange isId idOf authOf timeoutOf argumentOf optionNamed optionOf optionsOf argumentsOf hasShell twice pattern-Alternative-next partsAt partsOf goodPart alternativeOf signOf items escapedItems behindSet tails matchItems matches matchesSome bodyOf behind reach ranges members goodSet listed inSet depth number pattern-Tree-joined expansions fits pattern-Tree-markOf firstPiece readPattern readList patternOf listOf treeOf pattern-Tree-expanded fresh passwordNeeded commandByte goodComponent goodCommand goodName goodGroups goodArgument goodArguments goodQuestion questionOf stringsOf stringsIn untilZero defineName defineText defineLine globalLine operatorOf ifLine colonWord entryLine fieldsRead lineCause lineRead reader-State-start withDefinition withSettings withEntry blank letter digit wordByte nameByte printable visible classOf text-Lists-all text-Lists-any count firstFault has splitAt digits text-Number-numberOf partAt same startsWith headIs findPair findByte hourOf minuteOf clockOf dayNames lowerOf shortens dayAmong dayOf compared times-Item-rangeOf spanOf itemOf onDay inSpan itemMatches itemAnswer rightmost timesAccept times-Rule-marked unmarked markedAll lookup define tooMany nameStart isName builtIn textOf quotingAfter stays refers variables-Substitute-word known closed reference pieces variables-Substitute-joined joinedUpToBad substituted fieldText
+unfolding table buffer asks ago filled plain nothing clock clockSet log logged whole cutAt cases seen given mathlib.Core.Option.orElse mathlib.Core.List.flatMap Rattle.text.specs.Class.blank Rattle.text.specs.Class.letter Rattle.text.specs.Class.digit Rattle.text.specs.Class.wordByte Rattle.text.specs.Class.nameByte Rattle.text.specs.Class.printable Rattle.text.specs.Class.commandByte Rattle.text.specs.Class.classOf Rattle.text.specs.Lists.all Rattle.text.specs.Lists.any Rattle.text.specs.Lists.count Rattle.text.specs.Lists.has Rattle.text.specs.Lists.splitAt Rattle.text.specs.Number.digits Rattle.text.specs.Number.decimalOf Rattle.text.specs.Number.numberOf Rattle.text.specs.Parts.partAt Rattle.text.specs.Parts.partAtPair Rattle.text.specs.Quote.quotingAfter Rattle.text.specs.Slice.same Rattle.text.specs.Slice.startsWith Rattle.text.specs.Slice.headIs Rattle.text.specs.Slice.findPair Rattle.fault.specs.Fault.numberOf Rattle.fault.specs.Fault.readAll Rattle.glob.specs.Alternative.contextAfter Rattle.glob.specs.Alternative.partsAt Rattle.glob.specs.Alternative.partsOf Rattle.glob.specs.Alternative.goodPart Rattle.glob.specs.Alternative.alternativeOf Rattle.glob.specs.Match.signOf Rattle.glob.specs.Match.tokens Rattle.glob.specs.Match.escapedTokens Rattle.glob.specs.Match.setTokens Rattle.glob.specs.Match.tails Rattle.glob.specs.Match.matchTokens Rattle.glob.specs.Match.matches Rattle.glob.specs.Match.matchesSome Rattle.glob.specs.Set.ranges Rattle.glob.specs.Set.members Rattle.glob.specs.Set.goodSet Rattle.glob.specs.Set.covered Rattle.glob.specs.Set.inSet Rattle.pattern.specs.Tree.depth Rattle.pattern.specs.Tree.number Rattle.pattern.specs.Tree.combined Rattle.pattern.specs.Tree.expansions Rattle.pattern.specs.Tree.fits Rattle.pattern.specs.Tree.roleOf Rattle.pattern.specs.Tree.firstPiece Rattle.pattern.specs.Tree.readPattern Rattle.pattern.specs.Tree.readList Rattle.pattern.specs.Tree.patternOf Rattle.pattern.specs.Tree.listOf Rattle.pattern.specs.Tree.treeOf Rattle.pattern.specs.Tree.expanded Rattle.pattern.specs.Whole.expansionsOf Rattle.pattern.specs.Whole.fieldExpansions Rattle.pattern.specs.Whole.matchesPattern Rattle.question.specs.Password.fresh Rattle.question.specs.Password.passwordNeeded Rattle.question.specs.Question.goodComponent Rattle.question.specs.Question.goodCommand Rattle.question.specs.Question.goodName Rattle.question.specs.Question.goodArgument Rattle.question.specs.Question.goodStrings Rattle.question.specs.Question.goodQuestion Rattle.question.specs.Question.questionOf Rattle.question.specs.Strings.stringsOf Rattle.question.specs.Strings.stringsIn Rattle.times.specs.Clock.hourOf Rattle.times.specs.Clock.minuteOf Rattle.times.specs.Clock.clockOf Rattle.times.specs.Day.dayNames Rattle.times.specs.Day.lowerOf Rattle.times.specs.Day.shortens Rattle.times.specs.Day.dayAmong Rattle.times.specs.Day.dayOf Rattle.times.specs.Item.compared Rattle.times.specs.Item.clockRange Rattle.times.specs.Item.periodOf Rattle.times.specs.Item.itemOf Rattle.times.specs.Item.onDay Rattle.times.specs.Item.inPeriod Rattle.times.specs.Item.itemMatches Rattle.times.specs.Rule.rightmost Rattle.times.specs.Rule.timesAccept Rattle.times.specs.Rule.marked Rattle.times.specs.Rule.unmarked Rattle.times.specs.Rule.markedAll Rattle.line.specs.Fold.run Rattle.line.specs.Fold.outcome Rattle.line.specs.Joined.leading Rattle.line.specs.Joined.parts Rattle.line.specs.Joined.modeAfter Rattle.line.specs.Joined.joint Rattle.line.specs.Joined.modeJoined Rattle.line.specs.Joined.joinedFrom Rattle.line.specs.Joined.joinedLine Rattle.line.specs.Joined.indented Rattle.line.specs.Kind.kindOfLine Rattle.line.specs.Line.endedLines Rattle.line.specs.Line.lastEnds Rattle.line.specs.Line.cutShort Rattle.line.specs.Line.placed Rattle.line.specs.Line.cutPlace Rattle.line.specs.Line.endsAt Rattle.line.specs.Line.endOfLine Rattle.line.specs.Refused.accepted Rattle.line.specs.Refused.refusedFrom Rattle.line.specs.Refused.refusedByte Rattle.line.specs.Scan.stretches Rattle.line.specs.Scan.nonEmpty Rattle.line.specs.Scan.fieldsOf Rattle.line.specs.Scan.quotingAtEnd Rattle.line.specs.Scan.checked Rattle.line.specs.Scan.scanned Rattle.variables.specs.Define.defineName Rattle.variables.specs.Define.defineText Rattle.variables.specs.Define.defineIn Rattle.variables.specs.Scope.lookup Rattle.variables.specs.Scope.define Rattle.variables.specs.Scope.isName Rattle.variables.specs.Scope.builtIn Rattle.variables.specs.Scope.nameText Rattle.variables.specs.Substitute.stays Rattle.variables.specs.Substitute.refers Rattle.variables.specs.Substitute.word Rattle.variables.specs.Substitute.bracketed Rattle.variables.specs.Substitute.reference Rattle.variables.specs.Substitute.substituted Rattle.variables.specs.Substitute.fieldText Rattle.options.specs.Arguments.passes Rattle.options.specs.Arguments.argumentsFrom Rattle.options.specs.Arguments.argumentsPass Rattle.options.specs.Arguments.inForce Rattle.options.specs.Options.noOptions Rattle.options.specs.Options.over Rattle.options.specs.Options.nargsAllow Rattle.options.specs.Read.numberRange Rattle.options.specs.Read.isId Rattle.options.specs.Read.idOf Rattle.options.specs.Read.authOf Rattle.options.specs.Read.timeoutOf Rattle.options.specs.Read.argumentOf Rattle.options.specs.Read.optionNamed Rattle.options.specs.Read.optionOf Rattle.options.specs.Read.optionsOf Rattle.options.specs.Read.argumentsOf Rattle.options.specs.Read.hasShell Rattle.options.specs.Read.twice Rattle.condition.specs.Condition.prefixed Rattle.condition.specs.Condition.unnegated Rattle.condition.specs.Condition.judgeOf Rattle.condition.specs.Condition.alternativesOf Rattle.condition.specs.Condition.conditionOf Rattle.condition.specs.Rightmost.rightmost Rattle.condition.specs.Times.timesAccept Rattle.condition.specs.Users.userApplies Rattle.condition.specs.Users.groupApplies Rattle.condition.specs.Users.usersAccept Rattle.entry.specs.Entry.fieldsFrom Rattle.entry.specs.Entry.completed Rattle.entry.specs.Entry.entryOf Rattle.entry.specs.Entry.conditionsAccept Rattle.entry.specs.Field.noField Rattle.entry.specs.Field.followed Rattle.entry.specs.Field.fullPath Rattle.entry.specs.Field.hasPair Rattle.entry.specs.Field.pairOf Rattle.entry.specs.Field.commandOf Rattle.entry.specs.Field.pathField Rattle.entry.specs.Field.otherOf Rattle.entry.specs.Field.fieldOf Rattle.entry.specs.Path.starred Rattle.entry.specs.Path.pathFor Rattle.entry.specs.Verdict.verdictOn Rattle.entry.specs.Verdict.verdictOf Rattle.reader.specs.Colon.defineLine Rattle.reader.specs.Colon.globalLine Rattle.reader.specs.Colon.operatorOf Rattle.reader.specs.Colon.ifLine Rattle.reader.specs.Colon.colonWord Rattle.reader.specs.Read.entryLine Rattle.reader.specs.Read.fieldsRead Rattle.reader.specs.Read.lineCause Rattle.reader.specs.Read.lineRead Rattle.reader.specs.State.start Rattle.reader.specs.State.withDefinition Rattle.reader.specs.State.withSettings Rattle.reader.specs.State.withEntry Rattle.answer.specs.Answer.grantIn Rattle.answer.specs.Answer.toldOf Rattle.answer.specs.Answer.isDecision Rattle.answer.specs.Answer.decidingLine Rattle.answer.specs.Cut.nothingYet Rattle.answer.specs.Cut.cutAnswer Rattle.answer.specs.Meaning.strings Rattle.answer.specs.Meaning.grantedBy Rattle.answer.specs.Meaning.answerOf
+    Rattle.text.specs.Buffer.laid Rattle.text.specs.Buffer.upTo Rattle.text.specs.Class.blank Rattle.text.specs.Class.letter Rattle.text.specs.Class.digit
+    Rattle.text.specs.Class.wordByte Rattle.text.specs.Class.nameByte Rattle.text.specs.Class.printable Rattle.text.specs.Class.visible Rattle.text.specs.Class.classOf
+    Rattle.text.specs.Lists.all Rattle.text.specs.Lists.any Rattle.text.specs.Lists.count Rattle.text.specs.Lists.firstFault Rattle.text.specs.Lists.has
+    Rattle.text.specs.Lists.splitAt Rattle.text.specs.Number.digits Rattle.text.specs.Number.numberOf Rattle.text.specs.Parts.partAt Rattle.text.specs.Quote.quotingAfter
+    Rattle.text.specs.Slice.same Rattle.text.specs.Slice.startsWith Rattle.text.specs.Slice.headIs Rattle.text.specs.Slice.findPair Rattle.text.specs.Slice.findByte
+    Rattle.fault.specs.Fault.numberOf Rattle.fault.specs.Fault.readAll Rattle.pattern.specs.Alternative.next Rattle.pattern.specs.Alternative.partsAt
+    Rattle.pattern.specs.Alternative.partsOf Rattle.pattern.specs.Alternative.goodPart Rattle.pattern.specs.Alternative.alternativeOf Rattle.pattern.specs.Match.signOf
+    Rattle.pattern.specs.Match.items Rattle.pattern.specs.Match.escapedItems Rattle.pattern.specs.Match.behindSet Rattle.pattern.specs.Match.tails
+    Rattle.pattern.specs.Match.matchItems Rattle.pattern.specs.Match.matches Rattle.pattern.specs.Match.matchesSome Rattle.pattern.specs.Run.ran Rattle.pattern.specs.Run.flat
+    Rattle.pattern.specs.Run.opening Rattle.pattern.specs.Set.bodyOf Rattle.pattern.specs.Set.behind Rattle.pattern.specs.Set.reach Rattle.pattern.specs.Set.ranges
+    Rattle.pattern.specs.Set.members Rattle.pattern.specs.Set.goodSet Rattle.pattern.specs.Set.listed Rattle.pattern.specs.Set.inSet Rattle.pattern.specs.Steps.seen
+    Rattle.pattern.specs.Steps.nth Rattle.pattern.specs.Tree.depth Rattle.pattern.specs.Tree.number Rattle.pattern.specs.Tree.joined Rattle.pattern.specs.Tree.expansions
+    Rattle.pattern.specs.Tree.fits Rattle.pattern.specs.Tree.markOf Rattle.pattern.specs.Tree.firstPiece Rattle.pattern.specs.Tree.readPattern Rattle.pattern.specs.Tree.readList
+    Rattle.pattern.specs.Tree.patternOf Rattle.pattern.specs.Tree.listOf Rattle.pattern.specs.Tree.treeOf Rattle.pattern.specs.Tree.expanded Rattle.pattern.specs.Whole.sizeOf
+    Rattle.pattern.specs.Whole.shapeOf Rattle.pattern.specs.Whole.expansionsOf Rattle.pattern.specs.Whole.expansionAt Rattle.pattern.specs.Whole.matchesPattern
+    Rattle.question.specs.Password.fresh Rattle.question.specs.Password.passwordNeeded Rattle.question.specs.Question.commandByte Rattle.question.specs.Question.goodComponent
+    Rattle.question.specs.Question.goodCommand Rattle.question.specs.Question.goodName Rattle.question.specs.Question.goodGroups Rattle.question.specs.Question.goodArgument
+    Rattle.question.specs.Question.goodArguments Rattle.question.specs.Question.goodQuestion Rattle.question.specs.Question.questionOf Rattle.question.specs.Strings.stringsOf
+    Rattle.question.specs.Strings.stringsIn Rattle.question.specs.Strings.untilZero Rattle.times.specs.Clock.hourOf Rattle.times.specs.Clock.minuteOf
+    Rattle.times.specs.Clock.clockOf Rattle.times.specs.Day.dayNames Rattle.times.specs.Day.lowerOf Rattle.times.specs.Day.shortens Rattle.times.specs.Day.dayAmong
+    Rattle.times.specs.Day.dayOf Rattle.times.specs.Item.compared Rattle.times.specs.Item.rangeOf Rattle.times.specs.Item.spanOf Rattle.times.specs.Item.itemOf
+    Rattle.times.specs.Item.onDay Rattle.times.specs.Item.inSpan Rattle.times.specs.Item.itemMatches Rattle.times.specs.Item.itemAnswer Rattle.times.specs.Rule.rightmost
+    Rattle.times.specs.Rule.timesAccept Rattle.times.specs.Rule.marked Rattle.times.specs.Rule.unmarked Rattle.times.specs.Rule.markedAll Rattle.line.specs.Counts.closedOff
+    Rattle.line.specs.Counts.counted Rattle.line.specs.Counts.countedAll Rattle.line.specs.Counts.keptOf Rattle.line.specs.Fields.textOf Rattle.line.specs.Fields.outcomeOf
+    Rattle.line.specs.Fold.run Rattle.line.specs.Fold.outcome Rattle.line.specs.Joined.markOf Rattle.line.specs.Joined.modeAfter Rattle.line.specs.Joined.joinMarks
+    Rattle.line.specs.Joined.modeJoined Rattle.line.specs.Joined.needsIndent Rattle.line.specs.Joined.startAt Rattle.line.specs.Joined.given Rattle.line.specs.Joined.after
+    Rattle.line.specs.Joined.lastMarks Rattle.line.specs.Joined.bareAtEnd Rattle.line.specs.Joined.marks Rattle.line.specs.Joined.endState Rattle.line.specs.Kind.kindOf
+    Rattle.line.specs.Line.endedLines Rattle.line.specs.Line.lastEnds Rattle.line.specs.Line.cutShort Rattle.line.specs.Line.placed Rattle.line.specs.Line.cutPlace
+    Rattle.line.specs.Line.endsAt Rattle.line.specs.Line.endOfLine Rattle.line.specs.Refused.accepted Rattle.line.specs.Refused.refusedFrom Rattle.line.specs.Refused.refusedByte
+    Rattle.line.specs.Scan.openQuote Rattle.line.specs.Scan.fieldsFrom Rattle.line.specs.Scan.verdict Rattle.line.specs.Scan.scanned Rattle.line.specs.Turns.stored
+    Rattle.line.specs.Turns.filled Rattle.line.specs.Turns.plainByte Rattle.variables.specs.Scope.lookup Rattle.variables.specs.Scope.define Rattle.variables.specs.Scope.tooMany
+    Rattle.variables.specs.Scope.nameStart Rattle.variables.specs.Scope.isName Rattle.variables.specs.Scope.builtIn Rattle.variables.specs.Scope.textOf
+    Rattle.variables.specs.State.nameAt Rattle.variables.specs.State.textAt Rattle.variables.specs.State.placesFrom Rattle.variables.specs.State.definitionsIn
+    Rattle.variables.specs.State.placeOf Rattle.variables.specs.State.outcomeOf Rattle.variables.specs.Substitute.quotingAfter Rattle.variables.specs.Substitute.stays
+    Rattle.variables.specs.Substitute.refers Rattle.variables.specs.Substitute.word Rattle.variables.specs.Substitute.known Rattle.variables.specs.Substitute.closed
+    Rattle.variables.specs.Substitute.reference Rattle.variables.specs.Substitute.pieces Rattle.variables.specs.Substitute.joined Rattle.variables.specs.Substitute.joinedUpToBad
+    Rattle.variables.specs.Substitute.substituted Rattle.variables.specs.Substitute.fieldText Rattle.variables.specs.Substitute.literal Rattle.variables.specs.Substitute.verbatim
+    Rattle.options.specs.Arguments.passes Rattle.options.specs.Arguments.argumentsFrom Rattle.options.specs.Arguments.argumentsPass Rattle.options.specs.Arguments.inForce
+    Rattle.options.specs.Arguments.failuresFrom Rattle.options.specs.Arguments.failures Rattle.options.specs.Arguments.marked Rattle.options.specs.Arguments.joined
+    Rattle.options.specs.Line.givenOf Rattle.options.specs.Line.holds Rattle.options.specs.Line.plus Rattle.options.specs.Options.noOptions Rattle.options.specs.Options.over
+    Rattle.options.specs.Options.nargsAllow Rattle.options.specs.Read.rangeOf Rattle.options.specs.Read.nameOf Rattle.options.specs.Read.isId Rattle.options.specs.Read.idOf
+    Rattle.options.specs.Read.authOf Rattle.options.specs.Read.timeoutOf Rattle.options.specs.Read.argumentOf Rattle.options.specs.Read.settingOf Rattle.options.specs.Read.optionOf
+    Rattle.options.specs.Read.only Rattle.options.specs.Read.optionsOf Rattle.options.specs.Read.argumentsOf Rattle.options.specs.Read.hasShell Rattle.options.specs.Read.twice
+    Rattle.options.specs.Values.idIn Rattle.options.specs.Values.optionsIn Rattle.entry.specs.Entry.fieldsFrom Rattle.entry.specs.Entry.completed Rattle.entry.specs.Entry.entryOf
+    Rattle.entry.specs.Entry.starred Rattle.entry.specs.Entry.pathFor Rattle.entry.specs.Entry.conditionsAccept Rattle.entry.specs.Piece.noField Rattle.entry.specs.Piece.followed
+    Rattle.entry.specs.Piece.expanded Rattle.entry.specs.Piece.pathOf Rattle.entry.specs.Piece.hasPair Rattle.entry.specs.Piece.pairOf Rattle.entry.specs.Piece.commandOf
+    Rattle.entry.specs.Piece.fullPathOf Rattle.entry.specs.Piece.prefixed Rattle.entry.specs.Piece.unnegated Rattle.entry.specs.Piece.userMarks Rattle.entry.specs.Piece.timeMarks
+    Rattle.entry.specs.Piece.otherOf Rattle.entry.specs.Piece.pieceOf Rattle.entry.specs.Users.userApplies Rattle.entry.specs.Users.groupApplies Rattle.entry.specs.Users.decidedBy
+    Rattle.entry.specs.Users.usersAccept Rattle.entry.specs.Verdict.verdictOn Rattle.entry.specs.Verdict.verdictOf Rattle.reader.specs.Colon.defineName
+    Rattle.reader.specs.Colon.defineText Rattle.reader.specs.Colon.defineLine Rattle.reader.specs.Colon.globalLine Rattle.reader.specs.Colon.operatorOf
+    Rattle.reader.specs.Colon.ifLine Rattle.reader.specs.Colon.colonWord Rattle.reader.specs.Read.entryLine Rattle.reader.specs.Read.fieldsRead Rattle.reader.specs.Read.lineCause
+    Rattle.reader.specs.Read.lineRead Rattle.reader.specs.State.start Rattle.reader.specs.State.withDefinition Rattle.reader.specs.State.withSettings
+    Rattle.reader.specs.State.withEntry Rattle.answer.specs.Answer.grantIn Rattle.answer.specs.Answer.toldOf Rattle.answer.specs.Answer.isDecision
+    Rattle.answer.specs.Answer.decidingLine Rattle.answer.specs.Cut.nothingYet Rattle.answer.specs.Cut.cutAnswer Rattle.answer.specs.Meaning.strings
+    Rattle.answer.specs.Meaning.grantedBy Rattle.answer.specs.Meaning.answerOf
 worked = refl

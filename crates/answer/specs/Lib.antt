@@ -1,3 +1,4 @@
 pub mod Answer
 pub mod Meaning
 pub mod Cut
+pub mod Contract

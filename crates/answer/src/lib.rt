@@ -7,12 +7,16 @@ use options::timeout::Timeout;
 pub struct Granted {
     // The number of the deciding control line's first physical line.
     pub line: usize,
+    // Where each string ends in the buffer, just after its zero byte; the last end is how many bytes were written.
+    pub path: usize,
+    pub uid: usize,
+    pub euid: usize,
+    pub gid: usize,
+    pub egid: usize,
     pub auth: bool,
     pub timeout: Timeout,
     // How many arguments are allowed.
     pub nargs: Span,
-    // How many bytes of the buffer were written.
-    pub written: usize,
 }
 
 pub enum Answer {

@@ -1,4 +1,4 @@
-pub mod Users
-pub mod Piece
+pub mod Field
 pub mod Entry
+pub mod Path
 pub mod Verdict

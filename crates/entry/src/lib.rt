@@ -1,9 +1,3 @@
 // Entries: their conditions, command patterns and path, and what the deciding one answers.
-
-// The path of the command to run.
-pub struct Path;
-
-impl Path {
-    // The most bytes, each `*` replaced.
-    pub const BYTES: usize = 1024;
-}
+pub mod path; // the path with the command put in
+pub mod pair; // a command pattern and its path

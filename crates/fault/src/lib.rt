@@ -1,4 +1,6 @@
 // The causes for which a control line is refused, and the number told for each.
+ghost use mathlib.Core.Path.{_≡_};
+ghost use Rattle.fault.specs.Fault.{numberOf};
 
 pub enum Cause {
     // The joined line is too long.
@@ -13,7 +15,7 @@ pub enum Cause {
     Variable,
     // A field is too long after substitution.
     FieldLength,
-    // A set or brace list is open or empty, or a backslash is last.
+    // A set is open, empty or has a range that runs backwards, a brace list is open, a `}` closes none, or a backslash is last.
     Pattern,
     // Braces are too deep, or have too many expansions.
     PatternSize,
@@ -55,4 +57,41 @@ pub enum Cause {
     OptionTwice,
     // There are too many variables.
     TooManyNames,
+}
+
+impl Cause {
+    // The number of the refusal.
+    pub fn number(self) -> u8
+        ensures { λ r. ⌜ r ≡ numberOf self ⌝ }
+    {
+        match self {
+            Cause::LineLength => 15,
+            Cause::Indent => 14,
+            Cause::OpenQuote => 14,
+            Cause::FieldCount => 15,
+            Cause::Variable => 14,
+            Cause::FieldLength => 15,
+            Cause::Pattern => 14,
+            Cause::PatternSize => 15,
+            Cause::NameLength => 15,
+            Cause::TextLength => 15,
+            Cause::IdLength => 15,
+            Cause::IfDepth => 15,
+            Cause::Alternative => 14,
+            Cause::TimeItem => 14,
+            Cause::OptionName => 14,
+            Cause::OptionValue => 14,
+            Cause::PatternKind => 16,
+            Cause::EntryTooEarly => 16,
+            Cause::ColonWord => 14,
+            Cause::DefineName => 14,
+            Cause::Operator => 14,
+            Cause::LatePair => 14,
+            Cause::Path => 14,
+            Cause::SurplusField => 14,
+            Cause::MissingPart => 14,
+            Cause::OptionTwice => 14,
+            Cause::TooManyNames => 18,
+        }
+    }
 }

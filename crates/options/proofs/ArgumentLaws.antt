@@ -14,9 +14,8 @@ use Rattle.text.proofs.Laws.{next-of, both-no, both-yes, not-both}
 use Rattle.text.proofs.Lists.{all-append}
 use Rattle.question.specs.Strings.{stringsIn, untilZero}
 use Rattle.question.proofs.ZeroEnded.{in-at, in-open, in-end}
-use Rattle.pattern.specs.declared.Kind.the-variants.{Plain}
-use Rattle.pattern.specs.Tree.{treeOf}
-use Rattle.pattern.specs.Whole.{expansionsIn, expansionsOf, matchesPattern}
+use Rattle.pattern.specs.declared.Syntax.the-variants.{Plain}
+use Rattle.pattern.specs.Whole.{expansionsOf, fieldExpansions, matchesPattern}
 use Rattle.text.specs.Class.{Range, range}
 use Rattle.options.specs.Arguments.{ArgumentPattern, passes, argumentsFrom, argumentsPass, inForce}
 use Rattle.options.specs.Contract.{settingIn, patternAt, failuresFrom, failures, failuresWith, failuresAfter, eitherFails}
@@ -135,8 +134,8 @@ more-from (suc n) i ps p (a ∷ xs) =
     rw (h, more-from n (i + 1) ps p xs)
 
 -- a pattern that is no longer than a field
-within-field : (r : Range) (v : List ℕ) → length v ≤ 1024 → patternAt r v ≡ record { positions = r; expansions = expansionsIn (treeOf Plain v) }
-unfolding expansionsOf
+within-field : (r : Range) (v : List ℕ) → length v ≤ 1024 → patternAt r v ≡ record { positions = r; expansions = expansionsOf Plain v }
+unfolding fieldExpansions
 within-field r v h = rw (le-leb (length v) 1024 h)
 
 -- one more setting of a line, by a value that is no longer than a field
@@ -150,7 +149,7 @@ failures-more ps v (SetId Egid) xs h = rw (append-nil ps)
 failures-more ps v (SetAuth b) xs h = rw (append-nil ps)
 failures-more ps v (SetTimeout m) xs h = rw (append-nil ps)
 failures-more ps v (SetNargs m n) xs h = rw (append-nil ps)
-failures-more ps v (SetArgument m n) xs h = rw (within-field (range m n) v h) (more-from 64 1 ps (record { positions = range m n; expansions = expansionsIn (treeOf Plain v) }) xs)
+failures-more ps v (SetArgument m n) xs h = rw (within-field (range m n) v h) (more-from 64 1 ps (record { positions = range m n; expansions = expansionsOf Plain v }) xs)
 failures-more ps v SetShell xs h = rw (append-nil ps)
 
 same-from : (n : ℕ) → eitherFails (replicate n false) (replicate n false) ≡ replicate n false

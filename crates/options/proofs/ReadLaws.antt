@@ -18,14 +18,11 @@ use Rattle.text.specs.Slice.{same, startsWith, findByte}
 use Rattle.text.proofs.Laws.{part-rest, both-no}
 use Rattle.text.proofs.Lists.{parted-found, parted-missing}
 use Rattle.text.proofs.Slices.{same-true}
-use Rattle.fault.specs.Fault.{Reading, fault, value, needed, require}
+use Rattle.fault.specs.Fault.{Reading, fault, value}
 use Rattle.fault.specs.declared.Cause.{Cause}
-use Rattle.pattern.specs.Tree.{Tree, treeOf, depth, number, fits, expansions, expanded}
-use Rattle.pattern.specs.Whole.{shapeIn, sizeOf, shapeOf, expansionsIn}
-use Rattle.pattern.specs.declared.Kind.{Kind}
-use Rattle.pattern.specs.declared.Kind.the-variants.{Plain}
-use Rattle.pattern.specs.declared.Pattern.{Pattern}
-use Rattle.pattern.specs.declared.Shape.the-variants.{Malformed, Read}
+use Rattle.pattern.specs.declared.Syntax.the-variants.{Plain}
+use Rattle.pattern.specs.Tree.{expanded}
+use Rattle.pattern.specs.Whole.{expansionsOf}
 use Rattle.options.specs.Read.{Setting, setId, setAuth, setNargs, setShell, setArgument, idLimit, lastPosition, mostNargs, isId, idOf, authOf, timeoutOf, numberRange, nargsOf, patternsOf, argumentOf, optionNamed, optionOf}
 use Rattle.options.specs.Contract.{spanIn, backOf, valueIn, readIn}
 use Rattle.options.specs.declared.Id.{Id}
@@ -77,47 +74,6 @@ module _ (v : List ℕ) where
   pub patterns-other : same v (bytes "shell") ≡ false → some (fault PatternKind) ≡ some (patternsOf v)
   patterns-other e = rw e
 
--- a number that was capped at 65 passes 64 as it did
-capped : (n : ℕ) → leb (min n 65) 64 ≡ leb n 64
-capped n = elim (decLe n 64) [ yes h ↦ rw (le-leb n 64 h, le-leb (min n 65) 64 (omega arith)) | no h ↦ go (omega arith) (omega arith) ]
-  where
-    go : 64 < n → 64 < min n 65 → leb (min n 65) 64 ≡ leb n 64
-    go h k = rw (lt-leb n 64 h, lt-leb (min n 65) 64 k)
-
--- what the shape of a pattern says of its expansions
-shape-size : (t : Tree) (p : Pattern) → shapeIn (some t) ≡ Read p → leb (p .depth) 4 && leb (p .number) 64 ≡ fits t
-unfolding sizeOf fits
-shape-size t p e =
-    let d : depth t ≡ p .depth = cc in
-    let n : min (number t) 65 ≡ p .number = cc in
-    rw (← d, ← n, capped (number t))
-
-module _ (k : Kind) (v : List ℕ) where
-  pub expanded-bad : shapeOf k v ≡ Malformed → expanded k v ≡ fault BadPattern
-  unfolding shapeOf expanded
-  expanded-bad e = go (treeOf k v) e
-    where
-      go : (o : Option Tree) → shapeIn o ≡ Malformed → needed BadPattern o (λ t. require (fits t) PatternSize (value (expansions t))) ≡ fault BadPattern
-      go none e = refl
-      go (some t) e = cc
-
-  module _ (p : Pattern) (e : shapeOf k v ≡ Read p) where
-    pub expanded-good : leb (p .depth) 4 && leb (p .number) 64 ≡ true → expanded k v ≡ value (expansionsIn (treeOf k v))
-    unfolding shapeOf expanded
-    expanded-good f = go (treeOf k v) e
-      where
-        go : (o : Option Tree) → shapeIn o ≡ Read p → needed BadPattern o (λ t. require (fits t) PatternSize (value (expansions t))) ≡ value (expansionsIn o)
-        go none e = cc
-        go (some t) e = let q : fits t ≡ true = sym (shape-size t p e) ∙ f in rw q
-
-    pub expanded-large : leb (p .depth) 4 && leb (p .number) 64 ≡ false → expanded k v ≡ fault PatternSize
-    unfolding shapeOf expanded
-    expanded-large f = go (treeOf k v) e
-      where
-        go : (o : Option Tree) → shapeIn o ≡ Read p → needed BadPattern o (λ t. require (fits t) PatternSize (value (expansions t))) ≡ fault PatternSize
-        go none e = cc
-        go (some t) e = let q : fits t ≡ false = sym (shape-size t p e) ∙ f in rw q
-
 -- a pattern for positions as written
 module _ (v s : List ℕ) where
   abbrev argument : Option (Reading Cause Setting)
@@ -130,18 +86,13 @@ module _ (v s : List ℕ) where
     argument-is : {o : Reading Cause Setting} → argumentOf (range m n) v ≡ o → some o ≡ argument
     argument-is h = let p : some (range m n) ≡ numberRange 1 lastPosition s = rw q at e in rw (sym p, h)
 
-    pub argument-bad : shapeOf Plain v ≡ Malformed → some (fault BadPattern) ≡ argument
+    pub argument-fault : {c : Cause} → expanded Plain v ≡ fault c → some (fault c) ≡ argument
     unfolding argumentOf
-    argument-bad h = argument-is (rw (expanded-bad Plain v h))
+    argument-fault h = argument-is (rw h)
 
-    module _ (p : Pattern) (h : shapeOf Plain v ≡ Read p) where
-      pub argument-good : leb (p .depth) 4 && leb (p .number) 64 ≡ true → some (value (setArgument (range m n) (expansionsIn (treeOf Plain v)))) ≡ argument
-      unfolding argumentOf
-      argument-good f = argument-is (rw (expanded-good Plain v p h f))
-
-      pub argument-large : leb (p .depth) 4 && leb (p .number) 64 ≡ false → some (fault PatternSize) ≡ argument
-      unfolding argumentOf
-      argument-large f = argument-is (rw (expanded-large Plain v p h f))
+    pub argument-good : {es : List (List ℕ)} → expanded Plain v ≡ value es → some (value (setArgument (range m n) (expansionsOf Plain v))) ≡ argument
+    unfolding argumentOf expansionsOf
+    argument-good h = argument-is (rw h)
 
 -- the name is none of these
 abbrev pub Other : List ℕ → List String → Type 0

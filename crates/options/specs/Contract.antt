@@ -12,9 +12,8 @@ use Rattle.text.specs.Lists.{all, any}
 use Rattle.text.specs.Parts.{Parts, partAt}
 use Rattle.fault.specs.Fault.{Reading, fault, value}
 use Rattle.fault.specs.declared.Cause.{Cause}
-use Rattle.pattern.specs.declared.Kind.the-variants.{Plain}
-use Rattle.pattern.specs.Tree.{treeOf}
-use Rattle.pattern.specs.Whole.{expansionsIn, expansionsOf}
+use Rattle.pattern.specs.declared.Syntax.the-variants.{Plain}
+use Rattle.pattern.specs.Whole.{expansionsOf, fieldExpansions}
 use Rattle.options.specs.declared.Id.{Id}
 use Rattle.options.specs.declared.Id.the-variants.{Uid, Euid, Gid, Egid}
 use Rattle.options.specs.declared.ids.IdName.{IdName}
@@ -83,13 +82,13 @@ backOf (some p) = p .back
 unfoldable pub valueIn : List ℕ → List ℕ
 valueIn t = backOf (partAt (byte "=") t)
 
--- the setting that was read, by the value in its text: an id has at most 64 bytes, and a pattern's expansions are those of its tree
+-- the setting that was read, by the value in its text: an id has at most 64 bytes, and a pattern's expansions are those of the value
 abbrev pub settingIn : List ℕ → OptionSetting → Setting
 settingIn v (SetId i) = setId i (take idLimit v)
 settingIn v (SetAuth b) = setAuth b
 settingIn v (SetTimeout m) = setTimeout m
 settingIn v (SetNargs m n) = setNargs (range m n)
-settingIn v (SetArgument m n) = setArgument (range m n) (expansionsIn (treeOf Plain v))
+settingIn v (SetArgument m n) = setArgument (range m n) (expansionsOf Plain v)
 settingIn v SetShell = setShell
 
 -- what was read of a text with that value
@@ -120,7 +119,7 @@ noted l s = record { stands = set (l .stands) (s .which) true; twice = l .twice 
 
 -- a pattern as written, for a range of positions, as the matcher takes it: none of its expansions where it is longer than a field
 abbrev pub patternAt : Range → List ℕ → ArgumentPattern
-patternAt r p = record { positions = r; expansions = expansionsOf Plain p }
+patternAt r p = record { positions = r; expansions = fieldExpansions Plain p }
 
 -- which of n positions, from i on, have an argument that fails a pattern; a position without an argument does not
 unfoldable pub failuresFrom : ℕ → ℕ → List ArgumentPattern → List (List ℕ) → List Bool

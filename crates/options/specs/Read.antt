@@ -17,7 +17,7 @@ use Rattle.text.specs.declared.number.Number.the-variants.{Value, Malformed}
 use Rattle.fault.specs.Fault.{Reading, fault, value, andThen, needed, require}
 use Rattle.fault.specs.declared.Cause.{Cause}
 use Rattle.fault.specs.declared.Cause.the-variants.{IdLength, OptionValue, PatternKind}
-use Rattle.pattern.specs.declared.Kind.the-variants.{Plain}
+use Rattle.pattern.specs.declared.Syntax.the-variants.{Plain}
 use Rattle.pattern.specs.Tree.{expanded}
 use Rattle.options.specs.declared.Id.{Id}
 use Rattle.options.specs.declared.Id.the-variants.{Uid, Euid, Gid, Egid}

@@ -1,7 +1,7 @@
 // Which arguments fail an argument pattern: nothing of the patterns is kept but this.
 use super::or;
 use super::setting::OptionSetting;
-use pattern::Kind;
+use pattern::Syntax;
 use pattern::matcher::matches_pattern;
 use question::strings::string_end;
 ghost use Prim.Native.Nat.{ℕ};
@@ -40,7 +40,7 @@ fn fails(
     if last < position {
         return false;
     }
-    !matches_pattern(Kind::Plain, pattern, argument)
+    !matches_pattern(Syntax::Plain, pattern, argument)
 }
 
 impl Failures {

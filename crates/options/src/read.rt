@@ -8,9 +8,9 @@ use super::span::Span;
 use super::span::number_range;
 use super::timeout::read_timeout;
 use fault::Cause;
-use pattern::Kind;
-use pattern::Shape;
-use pattern::reader::read_pattern;
+use pattern::Syntax;
+use pattern::Expanded;
+use pattern::reader::read_expansions;
 use text::slice::Found;
 use text::slice::equal;
 use text::slice::find_byte;
@@ -76,14 +76,9 @@ fn read_argument(positions: &[u8], v: &[u8]) -> OptionRead
 {
     match number_range(positions, 1, Failures::POSITIONS) {
         Span::Nothing => OptionRead::NotOption,
-        Span::Between(m, n) => match read_pattern(Kind::Plain, v) {
-            Shape::Malformed => OptionRead::Faulty(Cause::Pattern),
-            Shape::Read(size) => {
-                if size.fits() {
-                    return OptionRead::Set(OptionSetting::SetArgument(m, n));
-                }
-                OptionRead::Faulty(Cause::PatternSize)
-            }
+        Span::Between(m, n) => match read_expansions(Syntax::Plain, v) {
+            Expanded::Fault(cause) => OptionRead::Faulty(cause),
+            Expanded::Number(_) => OptionRead::Set(OptionSetting::SetArgument(m, n)),
         },
     }
 }

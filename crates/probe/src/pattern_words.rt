@@ -6,28 +6,28 @@ use super::output::put_number;
 use super::output::yes_or_no;
 use super::words::Words;
 use super::words::part;
-use pattern::Kind;
+use glob::alternative::Parted;
 use pattern::Pattern;
 use pattern::Shape;
-use pattern::alternative::Parted;
+use pattern::Syntax;
 use pattern::matcher::matches_pattern;
 use pattern::reader::read_pattern;
 use text::slice::equal;
 
 enum KindRead {
-    Is(Kind),
+    Is(Syntax),
     Malformed,
 }
 
 fn kind_of(s: &[u8]) -> KindRead {
     if equal(s, b"plain") {
-        return KindRead::Is(Kind::Plain);
+        return KindRead::Is(Syntax::Plain);
     }
     if equal(s, b"condition") {
-        return KindRead::Is(Kind::Condition);
+        return KindRead::Is(Syntax::Condition);
     }
     if equal(s, b"time") {
-        return KindRead::Is(Kind::Time);
+        return KindRead::Is(Syntax::Time);
     }
     KindRead::Malformed
 }
@@ -42,7 +42,7 @@ fn put_size(out: &mut [u8], n: usize, size: Pattern) -> usize {
     put_number(out, space, size.number)
 }
 
-fn shape(kind: Kind, p: &[u8], out: &mut [u8], n: usize) -> usize {
+fn shape(kind: Syntax, p: &[u8], out: &mut [u8], n: usize) -> usize {
     match read_pattern(kind, p) {
         Shape::Malformed => put(out, n, b"malformed"),
         Shape::Read(size) => put_size(out, n, size),
@@ -61,14 +61,14 @@ fn pattern(line: &[u8], words: Words, bytes: &[u8], out: &mut [u8], n: usize) ->
 }
 
 // What a pattern that was read says of a name.
-fn put_match(kind: Kind, size: Pattern, p: &[u8], name: &[u8], out: &mut [u8], n: usize) -> Answer {
+fn put_match(kind: Syntax, size: Pattern, p: &[u8], name: &[u8], out: &mut [u8], n: usize) -> Answer {
     if !size.fits() {
         return Answer::To(put(out, n, b"over"));
     }
     yes_or_no(out, n, matches_pattern(kind, p, name))
 }
 
-fn matching(kind: Kind, p: &[u8], name: &[u8], out: &mut [u8], n: usize) -> Answer {
+fn matching(kind: Syntax, p: &[u8], name: &[u8], out: &mut [u8], n: usize) -> Answer {
     match read_pattern(kind, p) {
         Shape::Malformed => Answer::To(put(out, n, b"malformed")),
         Shape::Read(size) => put_match(kind, size, p, name, out, n),
@@ -113,7 +113,7 @@ fn host_of(p: &[u8], at: usize) -> &[u8] {
 
 // `user P`: the parts of an alternative, or `bad`.
 fn put_user(p: &[u8], out: &mut [u8], n: usize) -> usize {
-    match pattern::alternative::part(p) {
+    match glob::alternative::part(p) {
         Parted::Malformed => put(out, n, b"bad"),
         Parted::Name => put_bytes(out, n, p),
         Parted::NameAtHost(at) => put_parts(out, n, p, at),

@@ -5,8 +5,9 @@ use super::output::put_bytes;
 use super::words::Word;
 use super::words::Words;
 use super::words::part;
-use variables::Outcome;
-use variables::Text;
+use fault::Cause;
+use variables::DefineOutcome;
+use variables::VariableText;
 use variables::Variables;
 use variables::field::FieldText;
 use variables::field::field_text;
@@ -32,39 +33,37 @@ fn is_pair(name: Word, text: Word) -> bool {
     text.is_plain()
 }
 
+// Whether a definition was one too many, and whether it was well formed.
+fn full_after(before: bool, cause: Cause) -> bool {
+    match cause {
+        Cause::TooManyNames => true,
+        _ => before,
+    }
+}
+
+fn good_after(before: bool, cause: Cause) -> bool {
+    match cause {
+        Cause::TooManyNames => before,
+        _ => false,
+    }
+}
+
 // The variables with one more definition.
 fn defined(before: Definitions, name: &[u8], text: &[u8]) -> Definitions {
     let vars = before.vars;
-    if is_built_in(name) {
-        return Definitions {
-            vars,
-            full: before.full,
-            good: false,
-        };
-    }
     let after = vars.define(name, text);
     let later = after.vars;
     let outcome = after.outcome;
     match outcome {
-        Outcome::Stored => Definitions {
+        DefineOutcome::Stored => Definitions {
             vars: later,
             full: before.full,
             good: before.good,
         },
-        Outcome::NoRoom => Definitions {
+        DefineOutcome::Fault(cause) => Definitions {
             vars: later,
-            full: true,
-            good: before.good,
-        },
-        Outcome::LongName => Definitions {
-            vars: later,
-            full: before.full,
-            good: false,
-        },
-        Outcome::LongText => Definitions {
-            vars: later,
-            full: before.full,
-            good: false,
+            full: full_after(before.full, cause),
+            good: good_after(before.good, cause),
         },
     }
 }
@@ -113,6 +112,13 @@ fn first_bytes(text: &[u8; 1024], k: usize) -> &[u8] {
     part(text, 0, k)
 }
 
+fn put_fault(cause: Cause, out: &mut [u8], n: usize) -> usize {
+    match cause {
+        Cause::Variable => put(out, n, b"bad"),
+        _ => put(out, n, b"long"),
+    }
+}
+
 fn put_text(
     vars: Variables,
     user: &[u8],
@@ -125,8 +131,7 @@ fn put_text(
     let count = vars.count;
     match field_text(&vars.bytes, &vars.sizes, count, user, host, field, &mut text) {
         FieldText::Text(k) => put_bytes(out, n, first_bytes(&text, k)),
-        FieldText::BadVariable => put(out, n, b"bad"),
-        FieldText::Long => put(out, n, b"long"),
+        FieldText::Fault(cause) => put_fault(cause, out, n),
     }
 }
 
@@ -146,7 +151,7 @@ fn text_of_field(words: Words, bytes: &[u8], out: &mut [u8], n: usize) -> Answer
     Answer::To(put_text(vars, user, host, field, out, n))
 }
 
-fn put_found(found: Text, out: &mut [u8], n: usize) -> usize {
+fn put_found(found: VariableText, out: &mut [u8], n: usize) -> usize {
     if !found.known {
         return put(out, n, b"unknown");
     }

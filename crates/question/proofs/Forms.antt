@@ -1,95 +1,61 @@
--- The laws of good commands, names, lists of strings and questions.
-use mathlib.Core.Path.{_≡_, refl, sym, ap, _∙_}
-use mathlib.Core.Bool.{Bool, true, false, not, cond, _&&_, _||_}
+-- The laws of good commands, names, arguments and questions.
+use mathlib.Core.Path.{_≡_, refl, sym, _∙_}
+use mathlib.Core.Bool.{Bool, true, false, not, cond, _&&_}
 use mathlib.Core.List.{List, [], _∷_}
-use mathlib.Core.Option.{Option, none, some}
+use mathlib.Core.Option.{Option, none, some, bind}
 use Prim.Native.Nat.{ℕ, _+_, _-_, _≤_, _<_}
 use native.Mathlib.Omega.{arith}
-use borrow.Author.Tests.{eq-eqb, ne-eqb, le-leb, lt-leb, lt-ltb, le-ltb}
+use borrow.Author.Tests.{le-leb, lt-leb, lt-ltb, le-ltb}
 use lib.Dec.{eqb, ltb}
-use lib.ListN.{length, take, drop, getD, length-drop}
-use lib.Seq.{drop-drop}
+use lib.ListN.{length, take, drop}
 use Rattle.text.specs.Bytes.{bytes}
-use Rattle.text.specs.Class.{nameByte, printable}
-use Rattle.text.specs.Lists.{all, splitAt, onto}
-use Rattle.text.specs.Slice.{same, headIs, findByte}
-use Rattle.text.specs.declared.slice.Found.{Found}
-use Rattle.text.specs.declared.slice.Found.the-variants.{At, Nothing}
-use Rattle.text.proofs.Laws.{part-rest, both-no, both-yes}
-use Rattle.text.proofs.Slices.{byte-at}
-use Rattle.text.proofs.Lists.{split-found, split-missing}
+use Rattle.text.specs.Class.{nameByte, printable, commandByte}
+use Rattle.text.specs.Lists.{null, all, splitAt, onto}
+use Rattle.text.specs.Slice.{same, headIs}
+use Rattle.text.specs.Contract.{lead}
+use Rattle.text.proofs.Laws.{part-rest, both-no, both-yes, either-yes}
+use Rattle.text.proofs.Leads.{split-at, split-last}
 use Rattle.question.specs.declared.WeekMinute.{WeekMinute}
 use Rattle.question.specs.declared.LastAuthentication.{LastAuthentication}
-use Rattle.question.specs.Strings.{stringsOf, whenStrings}
-use Rattle.question.proofs.ZeroEnded.{passFrom, pass-start}
-use Rattle.question.specs.Question.{Question, commandByte, goodComponent, goodCommand, goodName, goodGroups, goodArgument, goodArguments, goodQuestion, asked, questionOf, isQuestion}
+use Rattle.question.specs.Question.{Question, commandBytes, userBytes, hostBytes, mostGroups, argumentBytes, mostArguments, weekMinutes, stringsOf, goodComponent, goodCommand, goodName, goodArgument, goodStrings, goodQuestion, ifGood, questionOf}
+use Rattle.question.specs.Contract.{whenStrings, isQuestion}
 
--- a component, by its length and its first bytes
-pub component-none : (p : List ℕ) → length p ≡ 0 → false ≡ goodComponent p
-unfolding goodComponent
-component-none [] h = refl
-component-none (x ∷ p) h = absurd (omega arith)
+-- a component
+module _ (p : List ℕ) where
+  pub component-none : length p ≡ 0 → false ≡ goodComponent p
+  unfolding goodComponent
+  component-none h = rw (empty p h)
+    where
+      empty : (p : List ℕ) → length p ≡ 0 → null p ≡ true
+      empty [] h = refl
+      empty (x ∷ p) h = absurd (omega arith)
 
-pub component-long : (p : List ℕ) → 2 < length p → true ≡ goodComponent p
-unfolding goodComponent same
-component-long [] h = absurd (omega arith)
-component-long (x ∷ []) h = absurd (omega arith)
-component-long (x ∷ (y ∷ [])) h = absurd (omega arith)
-component-long (x ∷ (y ∷ (z ∷ p))) h = go (eqb x 46) (eqb y 46)
-  where
-    go : (a b : Bool) → true ≡ not (a && false || a && (b && false))
-    go true true = refl
-    go true false = refl
-    go false b = refl
+  pub component-dot : same p (bytes ".") ≡ true → false ≡ goodComponent p
+  unfolding goodComponent
+  component-dot t = rw (t, either-yes (null p))
 
-pub component-other : (p : List ℕ) → (length p ≡ 0 → ⊥) → (getD p 0 0 ≡ 46 → ⊥) → true ≡ goodComponent p
-unfolding goodComponent same
-component-other [] h e = absurd (h refl)
-component-other (x ∷ p) h e = rw (ne-eqb x 46 e)
+  pub component-rest : (length p ≡ 0 → ⊥) → same p (bytes ".") ≡ false → not (same p (bytes "..")) ≡ goodComponent p
+  unfolding goodComponent
+  component-rest n t = rw (filled p n, t)
+    where
+      filled : (p : List ℕ) → (length p ≡ 0 → ⊥) → null p ≡ false
+      filled [] n = absurd (n refl)
+      filled (x ∷ p) n = refl
 
-pub component-dot : (p : List ℕ) → length p ≡ 1 → getD p 0 0 ≡ 46 → false ≡ goodComponent p
-unfolding goodComponent same
-component-dot [] h e = absurd (omega arith)
-component-dot (x ∷ []) h e = rw (eq-eqb x 46 e)
-component-dot (x ∷ (y ∷ p)) h e = absurd (omega arith)
-
-pub component-two : (p : List ℕ) → length p ≡ 2 → getD p 0 0 ≡ 46 → not (eqb (getD p 1 0) 46) ≡ goodComponent p
-unfolding goodComponent same
-component-two [] h e = absurd (omega arith)
-component-two (x ∷ []) h e = absurd (omega arith)
-component-two (x ∷ (y ∷ [])) h e = rw (eq-eqb x 46 e) (go (eqb y 46))
-  where
-    go : (b : Bool) → not b ≡ not (b && true)
-    go true = refl
-    go false = refl
-component-two (x ∷ (y ∷ (z ∷ p))) h e = absurd (omega arith)
-
--- the components from a place on: r is where the first of them ends, in `&s[from..]`
-module _ (s : List ℕ) (from : ℕ) (r : Found) (g : r ≡ findByte 47 0 (take (length s - from) (drop from s))) where
-  found : {q : Found} → r ≡ q → findByte 47 0 (drop from s) ≡ q
-  found e = rw (part-rest from s) at (sym g ∙ e)
-
-  pub components-last : {t : Bool} → r ≡ Nothing → t ≡ goodComponent (take (length s - from) (drop from s)) → t ≡ all goodComponent (splitAt 47 (drop from s))
+-- the components from a place on, with `end` where the first of them ends
+module _ (s : List ℕ) (from end : ℕ) (e : end ≡ from + lead 47 (drop from s)) where
+  pub components-last : {t : Bool} → end ≡ length s → t ≡ goodComponent (take (length s - from) (drop from s)) → t ≡ all goodComponent (splitAt 47 (drop from s))
   unfolding all
-  components-last e t = t ∙ rw (part-rest from s, split-missing 47 (drop from s) (found e)) (sym (both-yes (goodComponent (drop from s))))
+  components-last q t = let h : length s ≤ end = omega arith in t ∙ rw (part-rest from s, split-last 47 s from end e h) (sym (both-yes (goodComponent (drop from s))))
 
-  module _ (n : ℕ) (e : r ≡ At n) where
-    parted : splitAt 47 (drop from s) ≡ take (from + n - from) (drop from s) ∷ splitAt 47 (drop (from + n + 1) s)
-    parted =
-        let k : from + (n + 1) ≡ from + n + 1 = omega arith in
-        let m : from + n - from ≡ n = omega arith in
-        split-found 47 (drop from s) n (found e) ∙ rw (drop-drop (n + 1) from s, k, m)
-
-    pub components-within : from ≤ length s → from + n < length s
-    components-within h = let t = byte-at 47 (drop from s) n (found e) in omega (arith, t .0, length-drop from s)
-
-    pub components-off : goodComponent (take (from + n - from) (drop from s)) ≡ false → false ≡ all goodComponent (splitAt 47 (drop from s))
+  module _ (h : end < length s) where
+    pub components-off : goodComponent (take (end - from) (drop from s)) ≡ false → false ≡ all goodComponent (splitAt 47 (drop from s))
     unfolding all
-    components-off t = rw (parted, t)
+    components-off t = rw (split-at 47 s from end e h, t)
 
-    pub components-on : goodComponent (take (from + n - from) (drop from s)) ≡ true → all goodComponent (splitAt 47 (drop (from + n + 1) s)) ≡ all goodComponent (splitAt 47 (drop from s))
+    pub components-on : goodComponent (take (end - from) (drop from s)) ≡ true → all goodComponent (splitAt 47 (drop (end + 1) s)) ≡ all goodComponent (splitAt 47 (drop from s))
     unfolding all
-    components-on t = rw (parted, t)
+    components-on t = rw (split-at 47 s from end e h, t)
 
 -- "not beginning with `/`" is one of the components' rules
 no-slash : (s : List ℕ) → not (headIs 47 s) && all goodComponent (splitAt 47 s) ≡ all goodComponent (splitAt 47 s)
@@ -106,21 +72,21 @@ module _ (s : List ℕ) where
   unfolding goodCommand
   command-none h = rw h
 
-  pub command-long : 256 < length s → false ≡ goodCommand s
+  pub command-long : commandBytes < length s → false ≡ goodCommand s
   unfolding goodCommand
-  command-long h = rw (lt-leb (length s) 256 h, both-no)
+  command-long h = rw (lt-leb (length s) commandBytes h, both-no)
 
-  module _ (n : length s ≡ 0 → ⊥) (h : length s ≤ 256) where
+  module _ (n : length s ≡ 0 → ⊥) (h : length s ≤ commandBytes) where
     some-byte : 1 ≤ length s
     some-byte = omega (arith, n)
 
     pub command-bytes : all commandByte s ≡ false → false ≡ goodCommand s
     unfolding goodCommand
-    command-bytes t = rw (le-leb 1 (length s) some-byte, le-leb (length s) 256 h, t)
+    command-bytes t = rw (le-leb 1 (length s) some-byte, le-leb (length s) commandBytes h, t)
 
     pub command-rest : all commandByte s ≡ true → all goodComponent (splitAt 47 s) ≡ goodCommand s
     unfolding goodCommand
-    command-rest t = rw (le-leb 1 (length s) some-byte, le-leb (length s) 256 h, t) (sym (no-slash s))
+    command-rest t = rw (le-leb 1 (length s) some-byte, le-leb (length s) commandBytes h, t) (sym (no-slash s))
 
 module _ (s : List ℕ) (most : ℕ) where
   pub name-none : length s ≡ 0 → false ≡ goodName most s
@@ -135,27 +101,24 @@ module _ (s : List ℕ) (most : ℕ) where
   unfolding goodName
   name-rest n h = let k : 1 ≤ length s = omega (arith, n) in rw (le-leb 1 (length s) k, le-leb (length s) most h)
 
-pub argument-long : (s : List ℕ) → 256 < length s → false ≡ goodArgument s
+pub argument-long : (s : List ℕ) → argumentBytes < length s → false ≡ goodArgument s
 unfolding goodArgument
-argument-long s h = rw (lt-leb (length s) 256 h)
+argument-long s h = rw (lt-leb (length s) argumentBytes h)
 
-pub argument-rest : (s : List ℕ) → length s ≤ 256 → all printable s ≡ goodArgument s
+pub argument-rest : (s : List ℕ) → length s ≤ argumentBytes → all printable s ≡ goodArgument s
 unfolding goodArgument
-argument-rest s h = rw (le-leb (length s) 256 h)
-
--- the lists of strings, by the count that the code keeps
-pub groups-start : (o : Option (List (List ℕ))) → passFrom (goodName 32) 32 0 o ≡ whenStrings goodGroups o
-unfolding goodGroups
-groups-start = pass-start (goodName 32) 32
-
-pub arguments-start : (o : Option (List (List ℕ))) → passFrom goodArgument 64 0 o ≡ whenStrings goodArguments o
-unfolding goodArguments
-arguments-start = pass-start goodArgument 64
+argument-rest s h = rw (le-leb (length s) argumentBytes h)
 
 -- a question is good where each of its parts is
+abbrev pub goodGroups : List ℕ → Bool
+goodGroups s = whenStrings (goodStrings mostGroups (goodName userBytes)) (stringsOf s)
+
+abbrev pub goodArguments : List ℕ → Bool
+goodArguments s = whenStrings (goodStrings mostArguments goodArgument) (stringsOf s)
+
 module _ (command user groups host : List ℕ) (minute : WeekMinute) (age : LastAuthentication) (args : List ℕ) where
-  pub question-is : isQuestion (questionOf command user groups host minute age args) ≡ goodCommand command && (goodName 32 user && (whenStrings goodGroups (stringsOf groups) && (goodName 255 host && (ltb (minute .0) 10080 && whenStrings goodArguments (stringsOf args)))))
-  unfolding questionOf goodQuestion
+  question-is : isQuestion (questionOf command user groups host minute age args) ≡ goodCommand command && (goodName userBytes user && (goodGroups groups && (goodName hostBytes host && (ltb (minute .0) weekMinutes && goodArguments args))))
+  unfolding questionOf goodQuestion bind
   question-is = go (stringsOf groups) (stringsOf args)
     where
       told : (t : Bool) (q : Question) → isQuestion (cond t (some q) none) ≡ t
@@ -163,18 +126,11 @@ module _ (command user groups host : List ℕ) (minute : WeekMinute) (age : Last
       told false q = refl
 
       no : (a b : Bool) → false ≡ a && (b && false)
-      no true true = refl
-      no true false = refl
-      no false b = refl
+      no a b = rw (both-no b, both-no a)
 
-      no5 : (a b c d e : Bool) → false ≡ a && (b && (c && (d && (e && false))))
-      no5 true true c d e = no c d ∙ ap (λ x. c && (d && x)) (sym (both-no e))
-      no5 true false c d e = refl
-      no5 false b c d e = refl
-
-      go : (g a : Option (List (List ℕ))) → isQuestion (asked command user host (minute .0) age g a) ≡ goodCommand command && (goodName 32 user && (whenStrings goodGroups g && (goodName 255 host && (ltb (minute .0) 10080 && whenStrings goodArguments a))))
-      go none a = no (goodCommand command) (goodName 32 user)
-      go (some gs) none = no5 (goodCommand command) (goodName 32 user) (goodGroups gs) (goodName 255 host) (ltb (minute .0) 10080)
+      go : (g a : Option (List (List ℕ))) → isQuestion (bind g (λ gs. bind a (λ xs. ifGood (record { command = command; user = user; groups = gs; host = host; minute = minute .0; age = age; args = xs })))) ≡ goodCommand command && (goodName userBytes user && (whenStrings (goodStrings mostGroups (goodName userBytes)) g && (goodName hostBytes host && (ltb (minute .0) weekMinutes && whenStrings (goodStrings mostArguments goodArgument) a))))
+      go none a = no (goodCommand command) (goodName userBytes user)
+      go (some gs) none = rw (both-no (ltb (minute .0) weekMinutes), both-no (goodName hostBytes host), both-no (goodStrings mostGroups (goodName userBytes) gs)) (no (goodCommand command) (goodName userBytes user))
       go (some gs) (some xs) = told _ _
 
 -- the answers of a check that tries the parts in this order
@@ -186,20 +142,20 @@ module _ (command user groups host : List ℕ) (minute : WeekMinute) (args : Lis
   bad-command c age = rw (question-is command user groups host minute age args, c)
 
   module _ (c : goodCommand command ≡ true) where
-    pub bad-user : goodName 32 user ≡ false → Asks false
+    pub bad-user : goodName userBytes user ≡ false → Asks false
     bad-user u age = rw (question-is command user groups host minute age args, c, u)
 
-    module _ (u : goodName 32 user ≡ true) where
-      pub bad-groups : whenStrings goodGroups (stringsOf groups) ≡ false → Asks false
+    module _ (u : goodName userBytes user ≡ true) where
+      pub bad-groups : goodGroups groups ≡ false → Asks false
       bad-groups g age = rw (question-is command user groups host minute age args, c, u, g)
 
-      module _ (g : whenStrings goodGroups (stringsOf groups) ≡ true) where
-        pub bad-host : goodName 255 host ≡ false → Asks false
+      module _ (g : goodGroups groups ≡ true) where
+        pub bad-host : goodName hostBytes host ≡ false → Asks false
         bad-host h age = rw (question-is command user groups host minute age args, c, u, g, h)
 
-        module _ (h : goodName 255 host ≡ true) where
-          pub bad-minute : 10080 ≤ minute .0 → Asks false
-          bad-minute m age = rw (question-is command user groups host minute age args, c, u, g, h, le-ltb (minute .0) 10080 m)
+        module _ (h : goodName hostBytes host ≡ true) where
+          pub bad-minute : weekMinutes ≤ minute .0 → Asks false
+          bad-minute m age = rw (question-is command user groups host minute age args, c, u, g, h, le-ltb (minute .0) weekMinutes m)
 
-          pub good-but-arguments : minute .0 < 10080 → Asks (whenStrings goodArguments (stringsOf args))
-          good-but-arguments m age = rw (question-is command user groups host minute age args, c, u, g, h, lt-ltb (minute .0) 10080 m)
+          pub good-but-arguments : minute .0 < weekMinutes → Asks (goodArguments args)
+          good-but-arguments m age = rw (question-is command user groups host minute age args, c, u, g, h, lt-ltb (minute .0) weekMinutes m)

@@ -1,94 +1,56 @@
 -- The laws of zero-ended strings.
-use mathlib.Core.Path.{_≡_, refl, ap, _∙_}
+use mathlib.Core.Path.{_≡_, refl}
 use mathlib.Core.Bool.{Bool, true, false, cond, _&&_}
 use mathlib.Core.List.{List, [], _∷_}
-use mathlib.Core.Option.{Option, none, some}
-use Prim.Native.Nat.{ℕ, zero, suc, _+_, _-_, _≤_, _<_}
+use mathlib.Core.Option.{Option, none, some, Option·map}
+use Prim.Native.Nat.{ℕ, suc, _+_, _-_, _≤_, _<_}
 use native.Mathlib.Nat.{add-zero, zero-add}
 use native.Mathlib.Omega.{arith}
-use borrow.Author.Tests.{eq-eqb, ne-eqb, le-leb, lt-leb}
+use borrow.Author.Tests.{ne-eqb, le-leb, lt-leb}
 use lib.Dec.{eqb, leb}
-use lib.ListN.{length, take, drop, getD, length-drop, drop-of-length-le}
-use lib.Seq.{drop-drop}
-use Rattle.text.specs.Lists.{all}
+use lib.ListN.{length, take, drop, getD, drop-of-length-le}
+use Rattle.text.specs.Lists.{null, all, any}
+use Rattle.text.specs.Contract.{lead}
 use Rattle.text.proofs.Laws.{next, both-no}
-use Rattle.question.specs.Strings.{inFront, stringsOf, whenStrings, into, stringsIn, untilZero}
-
--- a turn of a loop that looks for the zero
-pub zero-on : (s : List ℕ) (i : ℕ) → i < length s → (getD s i 0 ≡ 0 → ⊥) → i + 1 + untilZero (drop (i + 1) s) ≡ i + untilZero (drop i s)
-unfolding untilZero
-zero-on s i h t = rw (next s i, ne-eqb _ _ t) (omega arith)
-
-pub zero-hit : (s : List ℕ) (i : ℕ) → i < length s → getD s i 0 ≡ 0 → i ≡ i + untilZero (drop i s)
-unfolding untilZero
-zero-hit s i h t = rw (next s i, eq-eqb _ _ t) (omega arith)
-
-pub zero-end : (s : List ℕ) (i : ℕ) → length s ≤ i → i ≡ i + untilZero (drop i s)
-unfolding untilZero
-zero-end s i h = rw (drop-of-length-le s) (omega arith)
+use Rattle.text.proofs.Leads.{by-lead, by-none, lead-past, from-place}
+use Rattle.question.specs.Strings.{inFront, stringsOf, into, stringsIn}
+use Rattle.question.specs.Question.{goodStrings}
+use Rattle.question.specs.Contract.{whenStrings}
 
 -- a string in front of strings
 abbrev pub consed : List ℕ → Option (List (List ℕ)) → Option (List (List ℕ))
-consed p none = none
-consed p (some ps) = some (p ∷ ps)
-
-front-zero : (b : ℕ) (o : Option (List (List ℕ))) → inFront b true o ≡ consed [] o
-front-zero b none = refl
-front-zero b (some ps) = refl
-
-front-other : (b : ℕ) (p : List ℕ) (o : Option (List (List ℕ))) → inFront b false (consed p o) ≡ consed (b ∷ p) o
-front-other b p none = refl
-front-other b p (some ps) = refl
+consed p = Option·map (λ ps. p ∷ ps)
 
 -- the first string, and the strings behind its zero
-strings-first : (s : List ℕ) → untilZero s < length s → stringsOf s ≡ consed (take (untilZero s) s) (stringsOf (drop (suc (untilZero s)) s))
-unfolding stringsOf untilZero
-strings-first [] h = absurd (omega arith)
-strings-first (b ∷ s) h = go (eqb b 0) h (λ k. strings-first s k)
+strings-first : (s : List ℕ) → lead 0 s < length s → stringsOf s ≡ consed (take (lead 0 s) s) (stringsOf (drop (suc (lead 0 s)) s))
+unfolding stringsOf
+strings-first = by-lead 0 (λ s n. stringsOf s ≡ consed (take n s) (stringsOf (drop (suc n) s))) (λ s. zero (stringsOf s)) (λ b s n d p. rw (ne-eqb b 0 d, p) (other b (take n s) (stringsOf (drop (suc n) s))))
   where
-    n : ℕ
-    n = untilZero s
+    zero : (o : Option (List (List ℕ))) → inFront 0 true o ≡ consed [] o
+    zero none = refl
+    zero (some ps) = refl
 
-    go : (t : Bool) → cond t 0 (suc n) < suc (length s) → (n < length s → stringsOf s ≡ consed (take n s) (stringsOf (drop (suc n) s))) → inFront b t (stringsOf s) ≡ consed (take (cond t 0 (suc n)) (b ∷ s)) (stringsOf (drop (suc (cond t 0 (suc n))) (b ∷ s)))
-    go true h f = front-zero b (stringsOf s)
-    go false h f = ap (inFront b false) (f (omega arith)) ∙ front-other b (take n s) (stringsOf (drop (suc n) s))
+    other : (b : ℕ) (p : List ℕ) (o : Option (List (List ℕ))) → inFront b false (consed p o) ≡ consed (b ∷ p) o
+    other b p none = refl
+    other b p (some ps) = refl
 
 -- a last string without its zero
-strings-cut : (s : List ℕ) → 0 < length s → untilZero s ≡ length s → stringsOf s ≡ none
-unfolding stringsOf untilZero
-strings-cut [] h e = absurd (omega arith)
-strings-cut (b ∷ []) h e = go (eqb b 0) e
+strings-cut : (s : List ℕ) → length s ≤ lead 0 s → stringsOf s ≡ cond (null s) (some []) none
+unfolding stringsOf
+strings-cut = by-none 0 (λ s. stringsOf s ≡ cond (null s) (some []) none) refl (λ b s d p. rw (ne-eqb b 0 d, p) (go b s))
   where
-    go : (t : Bool) → _≡_ {A = ℕ} (cond t 0 1) 1 → inFront b t (some []) ≡ none
-    go true e = absurd (omega arith)
-    go false e = refl
-strings-cut (b ∷ (x ∷ s)) h e = go (eqb b 0) e (λ k. strings-cut (x ∷ s) (omega arith) k)
-  where
-    go : (t : Bool) → cond t 0 (suc (untilZero (x ∷ s))) ≡ suc (suc (length s)) → (untilZero (x ∷ s) ≡ suc (length s) → stringsOf (x ∷ s) ≡ none) → inFront b t (stringsOf (x ∷ s)) ≡ none
-    go true e f = absurd (omega arith)
-    go false e f = rw (f (omega arith))
+    go : (b : ℕ) (s : List ℕ) → inFront b false (cond (null s) (some []) none) ≡ none
+    go b [] = refl
+    go b (x ∷ s) = refl
 
 -- the same of the strings of any list
-in-first : (s : List ℕ) → untilZero s < length s → stringsIn s ≡ take (untilZero s) s ∷ stringsIn (drop (suc (untilZero s)) s)
-unfolding stringsIn untilZero
-in-first [] h = absurd (omega arith)
-in-first (b ∷ s) h = go (eqb b 0) h (λ k. in-first s k)
-  where
-    n : ℕ
-    n = untilZero s
+in-first : (s : List ℕ) → lead 0 s < length s → stringsIn s ≡ take (lead 0 s) s ∷ stringsIn (drop (suc (lead 0 s)) s)
+unfolding stringsIn
+in-first = by-lead 0 (λ s n. stringsIn s ≡ take n s ∷ stringsIn (drop (suc n) s)) (λ s. refl) (λ b s n d p. rw (ne-eqb b 0 d, p))
 
-    go : (t : Bool) → cond t 0 (suc n) < suc (length s) → (n < length s → stringsIn s ≡ take n s ∷ stringsIn (drop (suc n) s)) → into b t (stringsIn s) ≡ take (cond t 0 (suc n)) (b ∷ s) ∷ stringsIn (drop (suc (cond t 0 (suc n))) (b ∷ s))
-    go true h f = refl
-    go false h f = ap (into b false) (f (omega arith))
-
-in-cut : (s : List ℕ) → untilZero s ≡ length s → stringsIn s ≡ []
-unfolding stringsIn untilZero
-in-cut [] e = refl
-in-cut (b ∷ s) e = go (eqb b 0) e (λ k. in-cut s k)
-  where
-    go : (t : Bool) → cond t 0 (suc (untilZero s)) ≡ suc (length s) → (untilZero s ≡ length s → stringsIn s ≡ []) → into b t (stringsIn s) ≡ []
-    go true e f = absurd (omega arith)
-    go false e f = rw (f (omega arith))
+in-cut : (s : List ℕ) → length s ≤ lead 0 s → stringsIn s ≡ []
+unfolding stringsIn
+in-cut = by-none 0 (λ s. stringsIn s ≡ []) refl (λ b s d p. rw (ne-eqb b 0 d, p))
 
 -- the strings of a good list are the strings of it
 in-front : (b : ℕ) (t : Bool) (o : Option (List (List ℕ))) (qs ps : List (List ℕ)) → ((rs : List (List ℕ)) → o ≡ some rs → qs ≡ rs) → inFront b t o ≡ some ps → into b t qs ≡ ps
@@ -103,30 +65,14 @@ strings-in [] ps e = cc
 strings-in (b ∷ s) ps e = in-front b (eqb b 0) (stringsOf s) (stringsIn s) ps (λ rs. strings-in s rs) e
 
 -- at a place of s, with `end` where the string that begins there ends
-module _ (s : List ℕ) (from end : ℕ) (e : end ≡ from + untilZero (drop from s)) where
-  count-is : untilZero (drop from s) ≡ end - from
-  count-is = omega arith
-
-  behind-is : end < length s → drop (suc (untilZero (drop from s))) (drop from s) ≡ drop (end + 1) s
-  behind-is h = let k : from + suc (untilZero (drop from s)) ≡ end + 1 = omega arith in rw (drop-drop (suc (untilZero (drop from s))) from s, k)
-
-  pub strings-at : end < length s → stringsOf (drop from s) ≡ consed (take (end - from) (drop from s)) (stringsOf (drop (end + 1) s))
-  strings-at h =
-      let k : untilZero (drop from s) < length (drop from s) = rw length-drop (omega arith) in
-      rw (← count-is, ← behind-is h) (strings-first (drop from s) k)
-
-  pub strings-open : from < length s → end ≡ length s → stringsOf (drop from s) ≡ none
-  strings-open h q = let k : untilZero (drop from s) ≡ length (drop from s) = rw length-drop (omega arith) in strings-cut (drop from s) (rw length-drop (omega arith)) k
-
+module _ (s : List ℕ) (from end : ℕ) (e : end ≡ from + lead 0 (drop from s)) where
   pub in-at : end < length s → stringsIn (drop from s) ≡ take (end - from) (drop from s) ∷ stringsIn (drop (end + 1) s)
-  in-at h =
-      let k : untilZero (drop from s) < length (drop from s) = rw length-drop (omega arith) in
-      rw (← count-is, ← behind-is h) (in-first (drop from s) k)
+  in-at = from-place 0 s from end e stringsIn (λ p t. p ∷ stringsIn t) in-first
 
   pub in-open : end ≡ length s → stringsIn (drop from s) ≡ []
-  in-open q = let k : untilZero (drop from s) ≡ length (drop from s) = rw length-drop (omega arith) in in-cut (drop from s) k
+  in-open q = in-cut (drop from s) (lead-past 0 s from end e (omega arith))
 
-  -- a turn of a loop that counts, with n strings before this place, and one that looks for the i-th
+  -- a turn of a loop that counts, with n strings before this place, and of one that looks for the i-th
   pub count-on : (n : ℕ) → end < length s → n + 1 + length (stringsIn (drop (end + 1) s)) ≡ n + length (stringsIn (drop from s))
   count-on n h = rw (in-at h) (omega arith)
 
@@ -142,62 +88,87 @@ module _ (s : List ℕ) (from end : ℕ) (e : end ≡ from + untilZero (drop fro
   pub at-open : (k : ℕ) → end ≡ length s → [] ≡ getD (stringsIn (drop from s)) k []
   at-open k q = rw (in-open q)
 
-pub in-end : (s : List ℕ) (i : ℕ) → length s ≤ i → stringsIn (drop i s) ≡ []
-unfolding stringsIn
-in-end s i h = rw (drop-of-length-le s)
+  -- a turn of a loop that asks whether some string passes f
+  module _ (f : List ℕ → Bool) where
+    pub some-on : end < length s → f (take (end - from) (drop from s)) ≡ false → any f (stringsIn (drop (end + 1) s)) ≡ any f (stringsIn (drop from s))
+    unfolding any
+    some-on h t = rw (in-at h, t)
 
-pub count-end : (s : List ℕ) (i n : ℕ) → length s ≤ i → n ≡ n + length (stringsIn (drop i s))
-count-end s i n h = rw (in-end s i h) (omega arith)
+    pub some-hit : end < length s → f (take (end - from) (drop from s)) ≡ true → true ≡ any f (stringsIn (drop from s))
+    unfolding any
+    some-hit h t = rw (in-at h, t)
 
-pub at-end : (s : List ℕ) (i k : ℕ) → length s ≤ i → [] ≡ getD (stringsIn (drop i s)) k []
-at-end s i k h = rw (in-end s i h)
+    pub some-open : end ≡ length s → false ≡ any f (stringsIn (drop from s))
+    unfolding any
+    some-open q = rw (in-open q)
+
+-- past the list's end
+module _ (s : List ℕ) (i : ℕ) where
+  pub in-end : length s ≤ i → stringsIn (drop i s) ≡ []
+  unfolding stringsIn
+  in-end h = rw (drop-of-length-le s)
+
+  pub count-end : (n : ℕ) → length s ≤ i → n ≡ n + length (stringsIn (drop i s))
+  count-end n h = rw (in-end h) (omega arith)
+
+  pub at-end : (k : ℕ) → length s ≤ i → [] ≡ getD (stringsIn (drop i s)) k []
+  at-end k h = rw (in-end h)
+
+  pub some-end : (f : List ℕ → Bool) → length s ≤ i → false ≡ any f (stringsIn (drop i s))
+  unfolding any
+  some-end f h = rw (in-end h)
 
 pub at-start : (l : List (List ℕ)) (i : ℕ) → getD l (i - 0) [] ≡ getD l i []
 at-start l i = let z : i - 0 ≡ i = omega arith in rw z
 
-pub strings-end : (s : List ℕ) (i : ℕ) → length s ≤ i → stringsOf (drop i s) ≡ some []
-unfolding stringsOf
-strings-end s i h = rw (drop-of-length-le s)
-
--- k strings were seen, at most `most` are allowed, and each must pass f
-abbrev pub passFrom : (List ℕ → Bool) → ℕ → ℕ → Option (List (List ℕ)) → Bool
-passFrom f most k o = whenStrings (λ ps. leb (k + length ps) most && all f ps) o
-
+-- a loop over strings that must all be good, with k of them seen and at most `most` allowed
 module _ (f : List ℕ → Bool) (most : ℕ) where
-  pub pass-start : (o : Option (List (List ℕ))) → passFrom f most 0 o ≡ whenStrings (λ ps. leb (length ps) most && all f ps) o
-  pass-start none = refl
-  pass-start (some ps) = rw zero-add
+  abbrev pub passFrom : ℕ → Option (List (List ℕ)) → Bool
+  passFrom k o = whenStrings (λ ps. leb (k + length ps) most && all f ps) o
 
-  module _ (k : ℕ) (p : List ℕ) where
-    on : (o : Option (List (List ℕ))) → f p ≡ true → passFrom f most (k + 1) o ≡ passFrom f most k (consed p o)
-    unfolding all
-    on none t = refl
-    on (some ps) t = let e : k + 1 + length ps ≡ k + suc (length ps) = omega arith in rw (t, e)
+  pub pass-start : {m : ℕ} → most ≡ m → (o : Option (List (List ℕ))) → passFrom 0 o ≡ whenStrings (goodStrings m f) o
+  unfolding goodStrings
+  pass-start e none = refl
+  pass-start e (some ps) = rw (zero-add, e)
 
-    off : (o : Option (List (List ℕ))) → f p ≡ false → false ≡ passFrom f most k (consed p o)
-    unfolding all
-    off none t = refl
-    off (some ps) t = rw (t, both-no)
+  pub pass-end : (s : List ℕ) (i k : ℕ) → length s ≤ i → k ≤ most → true ≡ passFrom k (stringsOf (drop i s))
+  unfolding stringsOf all
+  pass-end s i k h m = rw (drop-of-length-le s h, add-zero, le-leb k most m)
 
-    full : (o : Option (List (List ℕ))) → k ≡ most → false ≡ passFrom f most k (consed p o)
-    unfolding all
-    full none e = refl
-    full (some ps) e = let h : most < k + suc (length ps) = omega arith in rw (lt-leb _ most h)
+  -- a turn of the loop
+  module _ (s : List ℕ) (from end k : ℕ) (e : end ≡ from + lead 0 (drop from s)) where
+    pub pass-open : from < length s → end ≡ length s → false ≡ passFrom k (stringsOf (drop from s))
+    pass-open h q = rw (strings-cut (drop from s) (lead-past 0 s from end e (omega arith)), next s from h)
 
-  pub pass-end : (s : List ℕ) (i k : ℕ) → length s ≤ i → k ≤ most → true ≡ passFrom f most k (stringsOf (drop i s))
-  unfolding all
-  pass-end s i k h m = rw (strings-end s i h, add-zero, le-leb k most m)
+    module _ (h : end < length s) where
+      abbrev p : List ℕ
+      p = take (end - from) (drop from s)
 
-  -- a turn of a loop over the strings of s
-  module _ (s : List ℕ) (from end k : ℕ) (e : end ≡ from + untilZero (drop from s)) where
-    pub pass-open : from < length s → end ≡ length s → false ≡ passFrom f most k (stringsOf (drop from s))
-    pass-open h q = rw (strings-open s from end e h q)
+      abbrev behind : Option (List (List ℕ))
+      behind = stringsOf (drop (end + 1) s)
 
-    pub pass-full : end < length s → k ≡ most → false ≡ passFrom f most k (stringsOf (drop from s))
-    pass-full h m = rw (strings-at s from end e h) (full k (take (end - from) (drop from s)) (stringsOf (drop (end + 1) s)) m)
+      strings-at : stringsOf (drop from s) ≡ consed p behind
+      strings-at = from-place 0 s from end e stringsOf (λ p t. consed p (stringsOf t)) strings-first h
 
-    pub pass-off : end < length s → f (take (end - from) (drop from s)) ≡ false → false ≡ passFrom f most k (stringsOf (drop from s))
-    pass-off h t = rw (strings-at s from end e h) (off k (take (end - from) (drop from s)) (stringsOf (drop (end + 1) s)) t)
+      pub pass-full : k ≡ most → false ≡ passFrom k (stringsOf (drop from s))
+      pass-full m = rw strings-at (go behind)
+        where
+          go : (o : Option (List (List ℕ))) → false ≡ passFrom k (consed p o)
+          go none = refl
+          go (some ps) = let l : most < k + suc (length ps) = omega arith in rw (lt-leb _ most l)
 
-    pub pass-on : end < length s → f (take (end - from) (drop from s)) ≡ true → passFrom f most (k + 1) (stringsOf (drop (end + 1) s)) ≡ passFrom f most k (stringsOf (drop from s))
-    pass-on h t = rw (strings-at s from end e h) (on k (take (end - from) (drop from s)) (stringsOf (drop (end + 1) s)) t)
+      pub pass-off : f p ≡ false → false ≡ passFrom k (stringsOf (drop from s))
+      unfolding all
+      pass-off t = rw strings-at (go behind)
+        where
+          go : (o : Option (List (List ℕ))) → false ≡ passFrom k (consed p o)
+          go none = refl
+          go (some ps) = rw (t, both-no)
+
+      pub pass-on : f p ≡ true → passFrom (k + 1) (stringsOf (drop (end + 1) s)) ≡ passFrom k (stringsOf (drop from s))
+      unfolding all
+      pass-on t = rw strings-at (go behind)
+        where
+          go : (o : Option (List (List ℕ))) → passFrom (k + 1) o ≡ passFrom k (consed p o)
+          go none = refl
+          go (some ps) = let z : k + 1 + length ps ≡ k + suc (length ps) = omega arith in rw (t, z)

@@ -1,3 +1,4 @@
 pub mod Strings
 pub mod Question
 pub mod Password
+pub mod Contract

@@ -1,42 +1,22 @@
 // Whether a question is as document 01 wants it. Any bytes are taken.
-use super::Limits;
+use super::Argument;
+use super::Arguments;
+use super::Command;
+use super::Groups;
+use super::Host;
+use super::User;
 use super::WeekMinute;
 use super::strings::string_end;
-use text::class::is_printable;
-use text::class::is_visible;
-use text::slice::Found;
-use text::slice::all_name_bytes;
-use text::slice::find_byte;
-ghost use Prim.Native.Nat.{_≤_};
+use text::alphabet::Alphabet;
+use text::alphabet::all_in;
+use text::slice::byte_from;
+use text::slice::equal;
 ghost use mathlib.Core.Path.{_≡_};
-ghost use lib.ListN.{drop};
-ghost use Rattle.text.specs.Class.{printable};
+ghost use Rattle.text.specs.Bytes.{byte};
 ghost use Rattle.text.specs.Lists.{all, splitAt};
 ghost use Rattle.question.specs.declared.LastAuthentication.{LastAuthentication};
-ghost use Rattle.question.specs.Strings.{stringsOf, whenStrings};
-ghost use Rattle.question.specs.Question.{commandByte, goodComponent, goodCommand, goodName, goodGroups, goodArgument, goodArguments, questionOf, isQuestion};
-
-fn is_command_byte(b: u8) -> bool
-    ensures { λ r. ⌜ r ≡ commandByte b ⌝ }
-{
-    if !is_visible(b) {
-        return false;
-    }
-    b != 58
-}
-
-fn all_command_bytes(s: &[u8]) -> bool
-    ensures { λ r. ⌜ r ≡ all commandByte (now (s .entry)) ⌝ }
-{
-    let mut i = 0;
-    while i < s.len() {
-        if !is_command_byte(s[i]) {
-            return false;
-        }
-        i += 1;
-    }
-    true
-}
+ghost use Rattle.question.specs.Question.{stringsOf, goodComponent, goodCommand, goodName, goodArgument, goodStrings, questionOf};
+ghost use Rattle.question.specs.Contract.{whenStrings, mostOf, goodOf, isQuestion};
 
 // Whether a component of a command is neither empty nor `.` nor `..`.
 fn component_is_good(p: &[u8]) -> bool
@@ -45,37 +25,26 @@ fn component_is_good(p: &[u8]) -> bool
     if p.len() == 0 {
         return false;
     }
-    if p.len() > 2 {
-        return true;
-    }
-    if p[0] != 46 {
-        return true;
-    }
-    if p.len() == 1 {
+    if equal(p, b".") {
         return false;
     }
-    p[1] != 46
+    !equal(p, b"..")
 }
 
 // Whether each component between slashes is good.
 fn components_are_good(s: &[u8]) -> bool
-    ensures { λ r. ⌜ r ≡ all goodComponent (splitAt 47 (now (s .entry))) ⌝ }
+    ensures { λ r. ⌜ r ≡ all goodComponent (splitAt (byte "/") (now (s .entry))) ⌝ }
 {
     let mut from = 0;
     while from <= s.len() {
-        let rest = &s[from..];
-        match find_byte(rest, 47) {
-            Found::Nothing => {
-                return component_is_good(rest);
-            }
-            Found::At(n) => {
-                let end = from + n;
-                if !component_is_good(&s[from..end]) {
-                    return false;
-                }
-                from = end + 1;
-            }
+        let end = byte_from(s, from, b'/');
+        if end == s.len() {
+            return component_is_good(&s[from..]);
         }
+        if !component_is_good(&s[from..end]) {
+            return false;
+        }
+        from = end + 1;
     }
     true
 }
@@ -86,10 +55,10 @@ pub fn command_is_good(s: &[u8]) -> bool
     if s.len() == 0 {
         return false;
     }
-    if s.len() > Limits::COMMAND {
+    if s.len() > Command::BYTES {
         return false;
     }
-    if !all_command_bytes(s) {
+    if !all_in(s, Alphabet::Command) {
         return false;
     }
     components_are_good(s)
@@ -105,58 +74,49 @@ pub fn name_is_good(s: &[u8], most: usize) -> bool
     if s.len() > most {
         return false;
     }
-    all_name_bytes(s)
-}
-
-// Whether the list is good groups, each ended by a zero.
-pub fn groups_are_good(list: &[u8]) -> bool
-    ensures { λ r. ⌜ r ≡ whenStrings goodGroups (stringsOf (now (list .entry))) ⌝ }
-{
-    let mut from = 0;
-    let mut count: usize = 0;
-    while from < list.len() {
-        let end = string_end(list, from);
-        if end == list.len() {
-            return false;
-        }
-        if count == Limits::GROUPS {
-            return false;
-        }
-        if !name_is_good(&list[from..end], Limits::USER) {
-            return false;
-        }
-        from = end + 1;
-        count += 1;
-    }
-    true
-}
-
-fn all_printable(s: &[u8]) -> bool
-    ensures { λ r. ⌜ r ≡ all printable (now (s .entry)) ⌝ }
-{
-    let mut i = 0;
-    while i < s.len() {
-        if !is_printable(s[i]) {
-            return false;
-        }
-        i += 1;
-    }
-    true
+    all_in(s, Alphabet::Name)
 }
 
 pub fn argument_is_good(s: &[u8]) -> bool
     ensures { λ r. ⌜ r ≡ goodArgument (now (s .entry)) ⌝ }
 {
-    if s.len() > Limits::ARGUMENT {
+    if s.len() > Argument::BYTES {
         return false;
     }
-    all_printable(s)
+    all_in(s, Alphabet::Printable)
 }
 
-// Whether the list is good arguments, each ended by a zero.
-pub fn arguments_are_good(list: &[u8]) -> bool
-    ensures { λ r. ⌜ r ≡ whenStrings goodArguments (stringsOf (now (list .entry))) ⌝ }
+// What a list of zero-ended strings holds.
+pub enum Listed {
+    Groups,
+    Arguments,
+}
+
+// How many strings the list may hold.
+fn most_of(listed: Listed) -> usize
+    ensures { λ r. ⌜ r ≡ mostOf listed ⌝ }
 {
+    match listed {
+        Listed::Groups => Groups::MOST,
+        Listed::Arguments => Arguments::MOST,
+    }
+}
+
+// Whether a string of the list is good.
+fn is_good(s: &[u8], listed: Listed) -> bool
+    ensures { λ r. ⌜ r ≡ goodOf listed (now (s .entry)) ⌝ }
+{
+    match listed {
+        Listed::Groups => name_is_good(s, User::BYTES),
+        Listed::Arguments => argument_is_good(s),
+    }
+}
+
+// Whether the list is good groups, or good arguments, each ended by a zero.
+pub fn strings_are_good(list: &[u8], listed: Listed) -> bool
+    ensures { λ r. ⌜ r ≡ whenStrings (goodStrings (mostOf listed) (goodOf listed)) (stringsOf (now (list .entry))) ⌝ }
+{
+    let most = most_of(listed);
     let mut from = 0;
     let mut count: usize = 0;
     while from < list.len() {
@@ -164,10 +124,10 @@ pub fn arguments_are_good(list: &[u8]) -> bool
         if end == list.len() {
             return false;
         }
-        if count == Limits::ARGUMENTS {
+        if count == most {
             return false;
         }
-        if !argument_is_good(&list[from..end]) {
+        if !is_good(&list[from..end], listed) {
             return false;
         }
         from = end + 1;
@@ -190,18 +150,18 @@ pub fn question_is_good(
     if !command_is_good(command) {
         return false;
     }
-    if !name_is_good(user, Limits::USER) {
+    if !name_is_good(user, User::BYTES) {
         return false;
     }
-    if !groups_are_good(groups) {
+    if !strings_are_good(groups, Listed::Groups) {
         return false;
     }
-    if !name_is_good(host, Limits::HOST) {
+    if !name_is_good(host, Host::BYTES) {
         return false;
     }
     let m = minute.0;
     if m >= WeekMinute::LIMIT {
         return false;
     }
-    arguments_are_good(args)
+    strings_are_good(args, Listed::Arguments)
 }

@@ -1,7 +1,51 @@
-// The question: its types, its limits, and whether one is as document 01 wants it.
+// The question: its types with their limits, and whether one is as document 01 wants it.
 pub mod form; // whether a question is good
 pub mod password; // whether a password is needed
 pub mod strings; // zero-ended strings, one after the other
+
+// A command, as bytes.
+pub struct Command;
+
+impl Command {
+    // The most bytes of one.
+    pub const BYTES: usize = 256;
+}
+
+// A user, as bytes; a group has the same form.
+pub struct User;
+
+impl User {
+    pub const BYTES: usize = 32;
+}
+
+// A host, as bytes.
+pub struct Host;
+
+impl Host {
+    pub const BYTES: usize = 255;
+}
+
+// The groups of a user, as zero-ended strings.
+pub struct Groups;
+
+impl Groups {
+    // The most groups.
+    pub const MOST: usize = 32;
+}
+
+// An argument, as bytes.
+pub struct Argument;
+
+impl Argument {
+    pub const BYTES: usize = 256;
+}
+
+// The arguments, as zero-ended strings.
+pub struct Arguments;
+
+impl Arguments {
+    pub const MOST: usize = 64;
+}
 
 // A minute of the week; Monday 0:00 is 0. It is never added to an age or compared with one.
 pub struct WeekMinute(pub u16);
@@ -20,19 +64,9 @@ pub enum LastAuthentication {
     Minutes(Age),
 }
 
-// The sizes of a question's parts, in bytes or in strings.
+// The limits under their old names.
 pub struct Limits;
 
 impl Limits {
-    pub const COMMAND: usize = 256;
-
-    pub const USER: usize = 32;
-
-    pub const GROUPS: usize = 32;
-
-    pub const HOST: usize = 255;
-
-    pub const ARGUMENTS: usize = 64;
-
-    pub const ARGUMENT: usize = 256;
+    pub const ARGUMENTS: usize = Arguments::MOST;
 }

@@ -1,22 +1,17 @@
 // Zero-ended strings, one after the other in one slice. Nothing is copied.
+use text::slice::byte_from;
 ghost use Prim.Native.Nat.{_+_, _≤_};
 ghost use mathlib.Core.Path.{_≡_};
 ghost use mathlib.Core.List.{[]};
 ghost use lib.ListN.{length, drop, getD};
-ghost use Rattle.question.specs.Strings.{stringsIn, untilZero};
+ghost use Rattle.text.specs.Contract.{lead};
+ghost use Rattle.question.specs.Strings.{stringsIn};
 
 // Where the string that begins at from ends: at its zero, or at the list's end.
 pub fn string_end(list: &[u8], from: usize) -> usize
-    ensures { λ r. ⌜ (r ≡ from + untilZero (drop from (now (list .entry)))) × (from ≤ r) × (from ≤ length (now (list .entry)) → r ≤ length (now (list .entry))) ⌝ }
+    ensures { λ r. ⌜ (r ≡ from + lead 0 (drop from (now (list .entry)))) × (from ≤ r) × (from ≤ length (now (list .entry)) → r ≤ length (now (list .entry))) ⌝ }
 {
-    let mut i = from;
-    while i < list.len() {
-        if list[i] == 0 {
-            return i;
-        }
-        i += 1;
-    }
-    i
+    byte_from(list, from, 0)
 }
 
 // How many strings the list has.

@@ -1,1 +1,4 @@
-pub mod Keeps
+pub mod ReadLaws
+pub mod ShortSettings
+pub mod ShortEntries
+pub mod ShortIds

@@ -1,9 +1,8 @@
 -- One control line from the old state to the new, or its first fault.
 use Prim.Native.Nat.{ℕ, zero, suc}
-use mathlib.Core.Bool.{Bool, true, false, not}
 use mathlib.Core.List.{List, [], _∷_}
 use mathlib.Core.Option.{Option, none, some}
-use Rattle.fault.specs.Fault.{Reading, fault, value, andThen, unless}
+use Rattle.fault.specs.Fault.{Reading, fault, value, andThen, require}
 use Rattle.fault.specs.declared.Cause.{Cause}
 use Rattle.fault.specs.declared.Cause.the-variants.{LineLength, Indent, OpenQuote, FieldCount, EntryTooEarly}
 use Rattle.line.specs.declared.scan.LineFault.{LineFault}
@@ -15,28 +14,34 @@ use Rattle.line.specs.Scan.{Scanned, scanned, fault as scanFault, fields}
 use Rattle.line.specs.Kind.{kindOf}
 use Rattle.question.specs.Question.{Question}
 use Rattle.variables.specs.Substitute.{fieldText}
+use Rattle.condition.specs.Condition.{Sort, judgeOf}
 use Rattle.entry.specs.Entry.{entryOf}
 use Rattle.reader.specs.State.{State, scopeOf, withEntry}
 use Rattle.reader.specs.Colon.{colonWord}
 
+-- the judge of a question's caller
+abbrev pub judgeFor : Question → Sort → List ℕ → Option Bool
+judgeFor q = judgeOf (q .user) (q .groups) (q .host) (q .minute)
+
 -- an entry met before `patterns=shell` is a fault ahead of any in its fields
-unfoldable pub entryLine : Question → ℕ → ℕ → State → List (List ℕ) → Reading Cause State
-entryLine q line end s fs = unless (not (s .shell)) EntryTooEarly (andThen (entryOf q (scopeOf q s) fs) (λ e. value (withEntry q line end e s)))
+unfoldable pub entryLine : Question → ℕ → State → List (List ℕ) → Reading Cause State
+entryLine q line s fs = require (s .shell) EntryTooEarly (andThen (entryOf (judgeFor q) (scopeOf q s) fs) (λ e. value (withEntry q line e s)))
 
 -- the first field is the colon word
 abbrev pub colonLine : Question → Option (List (List ℕ) → Reading Cause State) → State → List (List ℕ) → Reading Cause State
 colonLine q deeper s [] = value s
 colonLine q deeper s (f ∷ fs) = andThen (fieldText (scopeOf q s) f) (λ w. colonWord (scopeOf q s) deeper s fs w)
 
-abbrev pub byKind : Question → ℕ → ℕ → Option (List (List ℕ) → Reading Cause State) → State → List (List ℕ) → LineKind → Reading Cause State
-byKind q line end deeper s fs NoField = value s
-byKind q line end deeper s fs ColonKind = colonLine q deeper s fs
-byKind q line end deeper s fs EntryKind = entryLine q line end s fs
+-- by the kind of line that the fields make
+abbrev pub byKind : Question → ℕ → Option (List (List ℕ) → Reading Cause State) → State → List (List ℕ) → LineKind → Reading Cause State
+byKind q line deeper s fs NoField = value s
+byKind q line deeper s fs ColonKind = colonLine q deeper s fs
+byKind q line deeper s fs EntryKind = entryLine q line s fs
 
--- the fields of a control line, with the depth left for `:if`: to a depth of 4
-unfoldable pub fieldsRead : ℕ → Question → ℕ → ℕ → State → List (List ℕ) → Reading Cause State
-fieldsRead zero q line end s fs = byKind q line end none s fs (kindOf fs)
-fieldsRead (suc d) q line end s fs = byKind q line end (some (λ rest. fieldsRead d q line end s rest)) s fs (kindOf fs)
+-- the fields of a control line, with the depth left for `:if`
+unfoldable pub fieldsRead : ℕ → Question → ℕ → State → List (List ℕ) → Reading Cause State
+fieldsRead zero q line s fs = byKind q line none s fs (kindOf fs)
+fieldsRead (suc d) q line s fs = byKind q line (some (λ rest. fieldsRead d q line s rest)) s fs (kindOf fs)
 
 -- the cause of a fault found before fields are looked at
 unfoldable pub lineCause : LineFault → Cause
@@ -45,10 +50,15 @@ lineCause BadIndent = Indent
 lineCause BadQuote = OpenQuote
 lineCause ManyFields = FieldCount
 
-abbrev pub scannedRead : Question → ℕ → ℕ → State → Scanned → Reading Cause State
-scannedRead q line end s (scanFault f) = fault (lineCause f)
-scannedRead q line end s (fields fs) = fieldsRead 4 q line end s fs
+-- 01: another `:if` "to a depth of 4"
+abbrev pub ifDepth : ℕ
+ifDepth = 4
+
+-- a line that could not be parted, or its fields
+abbrev pub scannedRead : Question → ℕ → State → Scanned → Reading Cause State
+scannedRead q line s (scanFault f) = fault (lineCause f)
+scannedRead q line s (fields fs) = fieldsRead ifDepth q line s fs
 
 -- a control line: joined length, indents, quotes, number of fields, then fields left to right, then the whole line
 unfoldable pub lineRead : Question → State → Line → Reading Cause State
-lineRead q s l = scannedRead q (l .number) (l .end) s (scanned (l .bytes))
+lineRead q s l = scannedRead q (l .number) s (scanned (l .bytes))

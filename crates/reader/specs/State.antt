@@ -2,22 +2,25 @@
 use Prim.Native.Nat.{ℕ}
 use mathlib.Core.Bool.{Bool, true, false, _||_}
 use mathlib.Core.List.{List, [], _∷_, _++_}
-use mathlib.Core.Option.{Option, none, some}
-use Rattle.text.specs.Lists.{firstOf}
+use mathlib.Core.Option.{Option, none, some, orElse, Option·map}
 use Rattle.question.specs.Question.{Question}
 use Rattle.variables.specs.Scope.{Scope, Definition, define}
 use Rattle.options.specs.Options.{Options, noOptions, over}
 use Rattle.options.specs.Arguments.{ArgumentPattern}
 use Rattle.options.specs.Read.{Setting, optionsOf, argumentsOf, hasShell}
-use Rattle.entry.specs.Piece.{Entry}
+use Rattle.entry.specs.Field.{Entry}
 use Rattle.entry.specs.Verdict.{Verdict, verdictOf}
 
--- the deciding line's number and end, and its entry's verdict
+-- the deciding line's number, and its entry's verdict
 pub record Decision : Type 0 where
   pub line : ℕ
-  pub end : ℕ
   pub verdict : Verdict
 
+-- a verdict at the line with this number
+abbrev pub decidedAt : ℕ → Verdict → Decision
+decidedAt line v = record { line = line; verdict = v }
+
+-- the state between two lines
 pub record State : Type 0 where
   pub definitions : List Definition
   pub options : Options
@@ -25,6 +28,7 @@ pub record State : Type 0 where
   pub shell : Bool
   pub decision : Option Decision
 
+-- before the first line
 unfoldable pub start : State
 start = record { definitions = []; options = noOptions; arguments = []; shell = false; decision = none }
 
@@ -46,16 +50,12 @@ withSettings ss s = record {
   decision = s .decision;
 }
 
-abbrev pub decisionOf : ℕ → ℕ → Option Verdict → Option Decision
-decisionOf line end none = none
-decisionOf line end (some v) = some (record { line = line; end = end; verdict = v })
-
 -- the first entry that accepts decides
-unfoldable pub withEntry : Question → ℕ → ℕ → Entry → State → State
-withEntry q line end e s = record {
+unfoldable pub withEntry : Question → ℕ → Entry → State → State
+withEntry q line e s = record {
   definitions = s .definitions;
   options = s .options;
   arguments = s .arguments;
   shell = s .shell;
-  decision = firstOf (s .decision) (decisionOf line end (verdictOf q (s .options) (s .arguments) e));
+  decision = orElse (s .decision) (Option·map (decidedAt line) (verdictOf q (s .options) (s .arguments) e));
 }

@@ -8,12 +8,12 @@ use native.Mathlib.Numerals.{add-one}
 use native.Mathlib.Omega.{arith}
 use borrow.Author.Tests.{le-leb, lt-leb, leb-true, leb-false}
 use lib.ListN.{length, getD, drop, take, set, length-set, length-append, drop-of-length-le}
-use lib.Seq.{set-out, sets, sets-eq, take-suc-set, drop-set-lt, drop-drop, take-at, length-take-le}
+use lib.Seq.{set-out, sets, sets-eq, take-at, length-take-le}
 use lib.Dec.{leb}
 use Rattle.text.proofs.Laws.{next}
 use Rattle.text.specs.declared.buffer.Filled.{Filled}
 use Rattle.text.specs.declared.buffer.Filled.the-variants.{Done, Full}
-use Rattle.text.specs.Buffer.{laid, upTo, Wrote}
+use Rattle.text.specs.Contract.{laid, filledTo, Wrote}
 
 pub laid-length : (out : List ℕ) (n : ℕ) (xs : List ℕ) → length (laid out n xs) ≡ length out
 unfolding laid
@@ -49,25 +49,18 @@ laid-sets out n (b ∷ xs) = rw add-one (laid-sets (set out n b) (suc n) xs)
 pub laid-is : (out : List ℕ) (n : ℕ) (xs : List ℕ) → n + length xs ≤ length out → laid out n xs ≡ take n out ++ xs ++ drop (n + length xs) out
 laid-is out n xs h = laid-sets out n xs ∙ sets-eq xs out n h
 
--- for a definition that appends, with `take m` of the buffer as what has been appended: a store at m, seen from before and behind
-pub store-take : (l : List ℕ) (m b : ℕ) → m < length l → take (m + 1) (set l m b) ≡ take m l ++ (b ∷ [])
-store-take l m b h = rw (add-one, take-suc-set l m b)
-
-pub store-drop : (l old : List ℕ) (m b : ℕ) → drop m l ≡ drop m old → drop (m + 1) (set l m b) ≡ drop (m + 1) old
-store-drop l old m b e = drop-set-lt (m + 1) l m b (omega arith) ∙ sym (drop-drop 1 m l) ∙ ap (drop 1) e ∙ drop-drop 1 m old
-
 -- what was laid, read back
 pub laid-take : (out : List ℕ) (n : ℕ) (xs : List ℕ) → n + length xs ≤ length out → take (n + length xs) (laid out n xs) ≡ take n out ++ xs
 laid-take out n xs h =
     let k : n ≤ length out = omega arith in
     ap (take (n + length xs)) (laid-is out n xs h) ∙ take-at (take n out ++ xs) (drop (n + length xs) out) (n + length xs) (length-append (take n out) xs ∙ rw (length-take-le n out k))
 
-pub done-up : (size m : ℕ) → m ≤ size → Done m ≡ upTo size m
-unfolding upTo
+pub done-up : (size m : ℕ) → m ≤ size → Done m ≡ filledTo size m
+unfolding filledTo
 done-up size m h = rw (le-leb m size h)
 
-pub full-up : (size m : ℕ) → size < m → Full ≡ upTo size m
-unfolding upTo
+pub full-up : (size m : ℕ) → size < m → Full ≡ filledTo size m
+unfolding filledTo
 full-up size m h = rw (lt-leb m size h)
 
 -- what an answer tells: by the Bool of the test
@@ -79,12 +72,12 @@ told-full : (t : Bool) (m : ℕ) → cond t (Done m) Full ≡ Full → t ≡ fal
 told-full true m e = cc
 told-full false m e = refl
 
-pub up-done : (size m k : ℕ) → upTo size m ≡ Done k → (m ≤ size) × (k ≡ m)
-unfolding upTo
+pub up-done : (size m k : ℕ) → filledTo size m ≡ Done k → (m ≤ size) × (k ≡ m)
+unfolding filledTo
 up-done size m k e = let t = told-done (leb m size) m k e in (leb-true m size (t .0), t .1)
 
-pub up-full : (size m : ℕ) → upTo size m ≡ Full → size < m
-unfolding upTo
+pub up-full : (size m : ℕ) → filledTo size m ≡ Full → size < m
+unfolding filledTo
 up-full size m e = leb-false m size (told-full (leb m size) m e)
 
 module _ {old mid : List ℕ} {n : ℕ} {xs : List ℕ} {r : Filled} (w : Wrote old mid n xs r) where

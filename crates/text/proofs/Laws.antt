@@ -1,15 +1,16 @@
 -- General laws of lists, of choices and of computed tables.
-use mathlib.Core.Path.{_≡_, refl, sym, ap, _∙_}
+use mathlib.Core.Path.{_≡_, refl, sym, _∙_}
 use mathlib.Core.Bool.{Bool, true, false, not, cond, _&&_, _||_}
-use mathlib.Core.List.{List, [], _∷_, _++_, map}
+use mathlib.Core.List.{List, [], _∷_, map}
+use mathlib.Core.Option.{Option, none, some, bind}
 use mathlib.Core.Logic.{_⊎_, inl, inr}
 use Prim.Native.Nat.{ℕ, zero, suc, _+_, _-_, _≤_, _<_, min}
 use native.Mathlib.Omega.{arith}
 use native.Mathlib.Decide.{decLe}
 use native.Mathlib.Nat.{le-of-suc-le-suc, not-suc-le-zero}
 use native.Mathlib.Numerals.{add-one}
-use lib.ListN.{length, getD, take, drop, length-take, length-drop, length-map, take-append-drop}
-use lib.Seq.{drop-cons, drop-drop, take-all, take-take, take-nil, getD-take, getD-drop}
+use lib.ListN.{length, getD, take, drop, length-take, length-drop, length-map}
+use lib.Seq.{drop-cons, take-all, take-nil, getD-take, getD-drop}
 
 -- the next element, by the code's `i + 1`
 pub next-of : {A : Type 0} (z : A) (s : List A) (i : ℕ) → i < length s → drop i s ≡ getD s i z ∷ drop (i + 1) s
@@ -28,14 +29,19 @@ pub pick-both : {X : Type 0} (t : Bool) (x : X) → cond t x x ≡ x
 pick-both true x = refl
 pick-both false x = refl
 
--- a choice that says something else than y was x
-pub pick-told : {X : Type 0} (t : Bool) (x y : X) → (cond t x y ≡ y → ⊥) → t ≡ true
-pick-told true x y h = refl
-pick-told false x y h = absurd (h refl)
+-- a choice of something or none that is something
+pub chosen : {A : Type 0} (t : Bool) (o : Option A) (w : A) → cond t o none ≡ some w → (t ≡ true) × (o ≡ some w)
+chosen true o w e = (refl, e)
+chosen false o w e = (cc, cc)
 
-pub pick-ap : {X Y : Type 0} (f : X → Y) (t : Bool) (x y : X) → f (cond t x y) ≡ cond t (f x) (f y)
-pick-ap f true x y = refl
-pick-ap f false x y = refl
+-- one thing after the other, where the first is none and where it is something
+pub bind-none : {A B : Type 0} {o : Option A} (f : A → Option B) → o ≡ none → none ≡ bind o f
+unfolding bind
+bind-none f e = rw e
+
+pub bind-some : {A B : Type 0} {o : Option A} (f : A → Option B) {x : A} {y : Option B} → o ≡ some x → y ≡ f x → y ≡ bind o f
+unfolding bind
+bind-some f e p = rw e p
 
 pub both-true : (a b : Bool) → a && b ≡ true → (a ≡ true) × (b ≡ true)
 both-true true b e = (refl, e)
@@ -55,14 +61,6 @@ both-yes false = refl
 pub both-assoc : (a b c : Bool) → a && b && c ≡ a && (b && c)
 both-assoc true b c = refl
 both-assoc false b c = refl
-
-pub both-swap : (a b : Bool) → a && b ≡ b && a
-both-swap true b = sym (both-yes b)
-both-swap false b = sym (both-no b)
-
-pub both-false : (a b : Bool) → a && b ≡ false → (a ≡ false) ⊎ (b ≡ false)
-both-false true b e = inr e
-both-false false b e = inl refl
 
 pub either-no : (t : Bool) → t || false ≡ t
 either-no true = refl
@@ -88,21 +86,9 @@ pub either-assoc : (a b c : Bool) → a || b || c ≡ a || (b || c)
 either-assoc true b c = refl
 either-assoc false b c = refl
 
-pub either-swap : (a b : Bool) → a || b ≡ b || a
-either-swap true b = sym (either-yes b)
-either-swap false b = sym (either-no b)
-
 pub not-both : (a b : Bool) → not (a && b) ≡ not a || not b
 not-both true b = refl
 not-both false b = refl
-
-pub not-either : (a b : Bool) → not (a || b) ≡ not a && not b
-not-either true b = refl
-not-either false b = refl
-
-pub true-of : (t : Bool) → (t ≡ false → ⊥) → t ≡ true
-true-of true h = refl
-true-of false h = absurd (h refl)
 
 -- two tests that pass at the same time are one
 pub same-test : (a b : Bool) → (a ≡ true → b ≡ true) → (b ≡ true → a ≡ true) → a ≡ b
@@ -129,15 +115,6 @@ abbrev pub from : ℕ → ℕ → List ℕ
 from zero i = []
 from (suc n) i = i ∷ from n (i + 1)
 
--- what a computed test of a whole table says of an entry
-pub agree {ℓ} : {B : Type ℓ} (f g : ℕ → B) (l : List ℕ) (n i k : ℕ) → map f l ≡ map g (from n i) → k < n → f (getD l k 0) ≡ g (i + k)
-agree f g l zero i k e h = absurd (omega arith)
-agree f g [] (suc n) i k e h = cc
-agree f g (x ∷ l) (suc n) i zero e h = let z : i + 0 ≡ i = omega arith in let y : f x ≡ g i = cc in rw z y
-agree f g (x ∷ l) (suc n) i (suc k) e h =
-    let z : i + 1 + k ≡ i + suc k = omega arith in let y : map f l ≡ map g (from n (i + 1)) = cc in
-    rw (← z) (agree f g l n (i + 1) k y (omega arith))
-
 -- an entry of a table that is computed
 pub table-at : (f : ℕ → ℕ) (n i k : ℕ) → k < n → getD (map f (from n i)) k 0 ≡ f (i + k)
 table-at f zero i k h = absurd (omega arith)
@@ -163,10 +140,6 @@ part-rest n s = let h : length (drop n s) ≤ length s - n = omega (arith, lengt
 pub part-start : {A : Type 0} (n : ℕ) (s : List A) → take (n - 0) (drop 0 s) ≡ take n s
 part-start n s = let z : n - 0 ≡ n = omega arith in rw z
 
--- `&s[..]` is s
-pub part-whole : {A : Type 0} (s : List A) → take (length s - 0) (drop 0 s) ≡ s
-part-whole s = let h : length s ≤ length s - 0 = omega arith in take-all _ _ h
-
 pub drop-take : {A : Type 0} (b n : ℕ) (s : List A) → drop b (take n s) ≡ take (n - b) (drop b s)
 drop-take zero n s = let z : n - 0 ≡ n = omega arith in rw z
 drop-take (suc b) zero s = let z : 0 - suc b ≡ 0 = omega arith in rw z
@@ -183,22 +156,6 @@ module _ {A : Type 0} (s : List A) (a e : ℕ) where
 
   pub part-none : e ≤ a → take (e - a) (drop a s) ≡ []
   part-none h = let z : e - a ≡ 0 = omega arith in rw z
-
-  pub part-next : (z : A) → a < e → e ≤ length s → take (e - a) (drop a s) ≡ getD s a z ∷ take (e - (a + 1)) (drop (a + 1) s)
-  part-next z h k = let w : e - a ≡ suc (e - (a + 1)) = omega arith in let l : a < length s = omega arith in rw (w, next-of z s a l)
-
-  pub part-split : a ≤ e → drop a s ≡ take (e - a) (drop a s) ++ drop e s
-  part-split h =
-      let z : a + (e - a) ≡ e = omega arith in
-      let q : drop (e - a) (drop a s) ≡ drop e s = drop-drop (e - a) a s ∙ ap (λ (k : ℕ). drop k s) z in
-      sym (rw q at (take-append-drop (e - a) (drop a s)))
-
-  -- a part of a part
-  pub part-part : (b f : ℕ) → f ≤ e - a → take (f - b) (drop b (take (e - a) (drop a s))) ≡ take (a + f - (a + b)) (drop (a + b) s)
-  part-part b f h =
-      let z : a + f - (a + b) ≡ f - b = omega arith in
-      let k : f - b ≤ e - a - b = omega arith in
-      rw (drop-take b (e - a) (drop a s), take-take (f - b) (e - a - b) (drop b (drop a s)) k, drop-drop b a s, z)
 
 -- an impossible equation proves anything: `clash cc` where constructors differ
 pub clash : {A : Type 0} → _≡_ {A = ℕ} 0 1 → A

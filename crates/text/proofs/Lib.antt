@@ -1,4 +1,5 @@
 pub mod Laws
+pub mod Leads
 pub mod Buffers
 pub mod Classes
 pub mod Numbers

@@ -1,20 +1,19 @@
 -- The laws of the list functions, and of a text parted at a byte.
-use mathlib.Core.Path.{_≡_, refl, sym, ap, _∙_}
-use mathlib.Core.Bool.{Bool, true, false, not, cond, _&&_, _||_}
-use mathlib.Core.List.{List, [], _∷_, _++_, append-nil}
+use mathlib.Core.Path.{_≡_, refl, sym}
+use mathlib.Core.Bool.{Bool, true, false, _&&_, _||_}
+use mathlib.Core.List.{List, [], _∷_, _++_}
 use mathlib.Core.Option.{Option, none, some}
 use Prim.Native.Nat.{ℕ, zero, suc, _+_, _≤_, _<_}
 use native.Mathlib.Omega.{arith}
-use borrow.Author.Tests.{eq-eqb, ne-eqb, eqb-true, not-true}
+use borrow.Author.Tests.{eq-eqb}
 use lib.Dec.{eqb}
-use lib.Seq.{getD-take}
-use lib.ListN.{length, length-take, take, drop, getD, drop-of-length-le, take-append-drop}
-use Rattle.text.specs.Lists.{all, any, count, firstOf, firstFault, has, onto, splitAt}
-use Rattle.text.specs.Slice.{findByte}
+use lib.ListN.{length, take, drop, getD, drop-of-length-le}
+use Rattle.text.specs.Lists.{all, any, firstOf, has}
+use Rattle.text.specs.Contract.{findByte}
 use Rattle.text.specs.Parts.{partAt}
 use Rattle.text.specs.declared.slice.Found.the-variants.{At, Nothing}
-use Rattle.text.proofs.Slices.{byte-at, byte-none}
-use Rattle.text.proofs.Laws.{next, next-of, both-true, both-of, both-assoc, either-of, either-false, either-assoc, not-both, not-either}
+use Rattle.text.proofs.Leads.{found-parts, found-none}
+use Rattle.text.proofs.Laws.{next-of, both-assoc, either-of, either-assoc, part-start, part-rest}
 
 -- a turn of a loop that asks each element, with z for what stands past the end
 module _ {A : Type 0} (z : A) (f : A → Bool) (s : List A) (i : ℕ) where
@@ -54,63 +53,11 @@ module _ {A : Type 0} (f : A → Bool) where
   any-append [] ys = refl
   any-append (x ∷ xs) ys = rw (any-append xs ys) (sym (either-assoc (f x) (any f xs) (any f ys)))
 
-  pub count-append : (xs ys : List A) → count f (xs ++ ys) ≡ count f xs + count f ys
-  unfolding count
-  count-append [] ys = omega arith
-  count-append (x ∷ xs) ys = go (f x) (count-append xs ys)
-    where
-      go : (t : Bool) → count f (xs ++ ys) ≡ count f xs + count f ys → cond t (suc (count f (xs ++ ys))) (count f (xs ++ ys)) ≡ cond t (suc (count f xs)) (count f xs) + count f ys
-      go true e = omega arith
-      go false e = e
-
-  pub count-most : (xs : List A) → count f xs ≤ length xs
-  unfolding count
-  count-most [] = omega arith
-  count-most (x ∷ xs) = go (f x) (count-most xs)
-    where
-      go : (t : Bool) → count f xs ≤ length xs → cond t (suc (count f xs)) (count f xs) ≤ suc (length xs)
-      go true h = omega arith
-      go false h = omega arith
-
-  -- a turn of a loop that counts
-  pub count-next : (z : A) (s : List A) (i : ℕ) → i < length s → count f (drop i s) ≡ cond (f (getD s i z)) (suc (count f (drop (i + 1) s))) (count f (drop (i + 1) s))
-  unfolding count
-  count-next z s i h = rw (next-of z s i)
-
-  -- no element passes where each one does not, and the other way round
-  pub any-not : (xs : List A) → not (any f xs) ≡ all (λ x. not (f x)) xs
-  unfolding any all
-  any-not [] = refl
-  any-not (x ∷ xs) = not-either (f x) (any f xs) ∙ ap (_&&_ (not (f x))) (any-not xs)
-
-  pub all-not : (xs : List A) → not (all f xs) ≡ any (λ x. not (f x)) xs
-  unfolding any all
-  all-not [] = refl
-  all-not (x ∷ xs) = not-both (f x) (all f xs) ∙ ap (_||_ (not (f x))) (all-not xs)
-
-  pub all-at : (z : A) (s : List A) (i : ℕ) → i < length s → all f s ≡ true → f (getD s i z) ≡ true
-  unfolding all
-  all-at z [] i h e = absurd (omega arith)
-  all-at z (x ∷ s) zero h e = both-true (f x) (all f s) e .0
-  all-at z (x ∷ s) (suc i) h e = all-at z s i (omega arith) (both-true (f x) (all f s) e .1)
-
   pub any-at : (z : A) (s : List A) (i : ℕ) → i < length s → f (getD s i z) ≡ true → any f s ≡ true
   unfolding any
   any-at z [] i h e = absurd (omega arith)
   any-at z (x ∷ s) zero h e = rw e
   any-at z (x ∷ s) (suc i) h e = either-of (f x) (any f s) (any-at z s i (omega arith) e)
-
-  pub all-take : (n : ℕ) (s : List A) → all f s ≡ true → all f (take n s) ≡ true
-  all-take n s e = both-true (all f (take n s)) (all f (drop n s)) (sym (all-append (take n s) (drop n s)) ∙ rw (take-append-drop n s) e) .0
-
-  pub all-drop : (n : ℕ) (s : List A) → all f s ≡ true → all f (drop n s) ≡ true
-  all-drop n s e = both-true (all f (take n s)) (all f (drop n s)) (sym (all-append (take n s) (drop n s)) ∙ rw (take-append-drop n s) e) .1
-
--- a stronger test
-pub all-more : {A : Type 0} (f g : A → Bool) → ((x : A) → f x ≡ true → g x ≡ true) → (xs : List A) → all f xs ≡ true → all g xs ≡ true
-unfolding all
-all-more f g h [] e = refl
-all-more f g h (x ∷ xs) e = let t = both-true (f x) (all f xs) e in both-of (h x (t .0)) (all-more f g h xs (t .1))
 
 pub first-assoc : {A : Type 0} (a b c : Option A) → firstOf (firstOf a b) c ≡ firstOf a (firstOf b c)
 first-assoc none b c = refl
@@ -120,179 +67,13 @@ pub first-none : {A : Type 0} (a : Option A) → firstOf a none ≡ a
 first-none none = refl
 first-none (some x) = refl
 
-pub first-none-told : {A : Type 0} (a b : Option A) → firstOf a b ≡ none → (a ≡ none) × (b ≡ none)
-first-none-told none b e = (refl, e)
-first-none-told (some x) b e = (e, cc)
-
-module _ {A B : Type 0} (f : B → Option A) where
-  pub fault-append : (xs ys : List B) → firstFault f (xs ++ ys) ≡ firstOf (firstFault f xs) (firstFault f ys)
-  unfolding firstFault
-  fault-append [] ys = refl
-  fault-append (x ∷ xs) ys = rw (fault-append xs ys) (sym (first-assoc (f x) (firstFault f xs) (firstFault f ys)))
-
-  -- a turn of a loop that looks for the first fault
-  pub fault-on : (z : B) (s : List B) (i : ℕ) → i < length s → f (getD s i z) ≡ none → firstFault f (drop (i + 1) s) ≡ firstFault f (drop i s)
-  unfolding firstFault
-  fault-on z s i h e = rw (next-of z s i, e)
-
-  pub fault-off : (z : B) (s : List B) (i : ℕ) {a : A} → i < length s → f (getD s i z) ≡ some a → some a ≡ firstFault f (drop i s)
-  unfolding firstFault
-  fault-off z s i h e = rw (next-of z s i, e)
-
-  pub fault-end : (s : List B) (i : ℕ) → length s ≤ i → none ≡ firstFault f (drop i s)
-  unfolding firstFault
-  fault-end s i h = rw (drop-of-length-le s)
-
-  -- there is no fault where no element has one
-  pub fault-all : (z : B) (s : List B) → ((i : ℕ) → i < length s → f (getD s i z) ≡ none) → firstFault f s ≡ none
-  unfolding firstFault
-  fault-all z [] h = refl
-  fault-all z (x ∷ s) h = rw (h 0 (omega arith), fault-all z s (λ i k. h (suc i) (omega arith)))
-
-  pub fault-none : (z : B) (s : List B) (i : ℕ) → firstFault f s ≡ none → i < length s → f (getD s i z) ≡ none
-  unfolding firstFault
-  fault-none z [] i e h = absurd (omega arith)
-  fault-none z (x ∷ s) zero e h = first-none-told (f x) (firstFault f s) e .0
-  fault-none z (x ∷ s) (suc i) e h = fault-none z s i (first-none-told (f x) (firstFault f s) e .1) (omega arith)
-
-pub has-append : (c : ℕ) (xs ys : List ℕ) → has c (xs ++ ys) ≡ has c xs || has c ys
-unfolding has
-has-append c = any-append (λ b. eqb b c)
-
--- the byte is not there where each byte is another
-pub has-not : (c : ℕ) (s : List ℕ) → not (has c s) ≡ all (λ b. not (eqb b c)) s
-unfolding has
-has-not c = any-not (λ b. eqb b c)
-
 pub has-at : (c : ℕ) (s : List ℕ) (i : ℕ) → i < length s → getD s i 0 ≡ c → has c s ≡ true
 unfolding has
 has-at c s i h e = any-at (λ b. eqb b c) 0 s i h (eq-eqb _ _ e)
 
-pub has-no : (c : ℕ) (s : List ℕ) (i : ℕ) → i < length s → has c s ≡ false → getD s i 0 ≡ c → ⊥
-has-no c s i h n e = let t = has-at c s i h e in let z : _≡_ {A = ℕ} 0 1 = cc in omega arith
-
--- a turn of a loop that looks for a byte
-module _ (c : ℕ) (s : List ℕ) (i : ℕ) where
-  pub has-on : i < length s → (getD s i 0 ≡ c → ⊥) → has c (drop (i + 1) s) ≡ has c (drop i s)
-  unfolding has
-  has-on h e = any-on 0 (λ b. eqb b c) s i h (ne-eqb _ _ e)
-
-  pub has-off : i < length s → getD s i 0 ≡ c → true ≡ has c (drop i s)
-  unfolding has
-  has-off h e = any-off 0 (λ b. eqb b c) s i h (eq-eqb _ _ e)
-
-  pub has-end : length s ≤ i → false ≡ has c (drop i s)
-  unfolding has
-  has-end = any-end (λ b. eqb b c) s i
-
--- the parts between the bytes c: one more than there are such bytes
-onto-length : (b : ℕ) (ps : List (List ℕ)) → 0 < length ps → length (onto b ps) ≡ length ps
-onto-length b [] h = absurd (omega arith)
-onto-length b (p ∷ ps) h = refl
-
-pub split-length : (c : ℕ) (s : List ℕ) → length (splitAt c s) ≡ suc (count (λ b. eqb b c) s)
-unfolding splitAt count
-split-length c [] = refl
-split-length c (b ∷ s) = go (eqb b c) (split-length c s)
-  where
-    n : ℕ
-    n = count (λ x. eqb x c) s
-
-    go : (t : Bool) → length (splitAt c s) ≡ suc n → length (cond t ([] ∷ splitAt c s) (onto b (splitAt c s))) ≡ suc (cond t (suc n) n)
-    go true e = ap suc e
-    go false e = onto-length b (splitAt c s) (omega arith) ∙ e
-
--- a list without c is one part
-pub split-none : (c : ℕ) (s : List ℕ) → has c s ≡ false → splitAt c s ≡ s ∷ []
-unfolding splitAt has any
-split-none c [] e = refl
-split-none c (b ∷ s) e =
-    let t = either-false (eqb b c) (any (λ x. eqb x c) s) e in
-    rw (t .0, split-none c s (t .1))
-
--- the first part ends at the first c, and the rest is split behind it
-pub split-first : (c : ℕ) (p s : List ℕ) → has c p ≡ false → splitAt c (p ++ c ∷ s) ≡ p ∷ splitAt c s
-unfolding splitAt has any
-split-first c [] s e = rw (eq-eqb c c refl)
-split-first c (b ∷ p) s e =
-    let t = either-false (eqb b c) (any (λ x. eqb x c) p) e in
-    rw (t .0, split-first c p s (t .1))
-
--- the parts with c between them
-abbrev pub joinedRest : ℕ → List (List ℕ) → List ℕ
-joinedRest c [] = []
-joinedRest c (p ∷ ps) = c ∷ p ++ joinedRest c ps
-
-abbrev pub joined : ℕ → List (List ℕ) → List ℕ
-joined c [] = []
-joined c (p ∷ ps) = p ++ joinedRest c ps
-
--- joined, the parts are the whole
-pub split-join : (c : ℕ) (s : List ℕ) → joined c (splitAt c s) ≡ s
-unfolding splitAt
-split-join c [] = refl
-split-join c (b ∷ s) = go (eqb b c) refl (splitAt c s) (rw split-length (omega arith)) (split-join c s)
-  where
-    go : (t : Bool) → eqb b c ≡ t → (ps : List (List ℕ)) → 0 < length ps → joined c ps ≡ s → joined c (cond t ([] ∷ ps) (onto b ps)) ≡ b ∷ s
-    go t e [] h j = absurd (omega arith)
-    go true e (p ∷ ps) h j = let k = eqb-true b c e in cc
-    go false e (p ∷ ps) h j = cc
-
--- no part has the byte
-pub split-parts : (c : ℕ) (s : List ℕ) → all (λ p. not (has c p)) (splitAt c s) ≡ true
-unfolding splitAt all has any
-split-parts c [] = refl
-split-parts c (b ∷ s) = go (eqb b c) refl (splitAt c s) (split-parts c s)
-  where
-    go : (t : Bool) → eqb b c ≡ t → (ps : List (List ℕ)) → all (λ p. not (has c p)) ps ≡ true → all (λ p. not (has c p)) (cond t ([] ∷ ps) (onto b ps)) ≡ true
-    go true e ps h = h
-    go false e [] h = rw e
-    go false e (p ∷ ps) h = rw e h
-
--- so the parts are the only ones without the byte that join to the whole
-pub split-only : (c : ℕ) (p : List ℕ) (ps : List (List ℕ)) → all (λ q. not (has c q)) (p ∷ ps) ≡ true → splitAt c (joined c (p ∷ ps)) ≡ p ∷ ps
-unfolding all
-split-only c p [] e = rw (append-nil p) (split-none c p (not-true (has c p) (both-true (not (has c p)) true e .0)))
-split-only c p (q ∷ ps) e =
-    let t = both-true (not (has c p)) (all (λ q. not (has c q)) (q ∷ ps)) e in
-    split-first c p (joined c (q ∷ ps)) (not-true (has c p) (t .0)) ∙ ap (λ l. p ∷ l) (split-only c q ps (t .1))
-
--- the bytes before the first c, that c, and the bytes behind it
-pub parted : (c : ℕ) (s : List ℕ) (i : ℕ) → findByte c 0 s ≡ At i → s ≡ take i s ++ c ∷ drop (i + 1) s
-parted c s i e =
-    let t = byte-at c s i e in
-    sym (take-append-drop i s) ∙ ap (λ l. take i s ++ l) (next s i (t .0) ∙ rw (t .1))
-
--- the parts by the place of the first c
-pub split-found : (c : ℕ) (s : List ℕ) (i : ℕ) → findByte c 0 s ≡ At i → splitAt c s ≡ take i s ∷ splitAt c (drop (i + 1) s)
-split-found c s i e = let t = byte-at c s i e in ap (splitAt c) (parted c s i e) ∙ split-first c (take i s) (drop (i + 1) s) (t .2)
-
-pub split-missing : (c : ℕ) (s : List ℕ) → findByte c 0 s ≡ Nothing → splitAt c s ≡ s ∷ []
-split-missing c s e = split-none c s (byte-none c 0 s e)
-
--- the place found is the first
-pub byte-before : (c : ℕ) (s : List ℕ) (i j : ℕ) → findByte c 0 s ≡ At i → j < i → getD s j 0 ≡ c → ⊥
-byte-before c s i j e h k =
-    let t = byte-at c s i e in
-    has-no c (take i s) j (rw length-take (omega (arith, t .0))) (t .2) (getD-take i s j 0 h ∙ k)
-
 -- the text parted at its first c, by the place of that byte
-pub parted-first : (c : ℕ) (p s : List ℕ) → has c p ≡ false → partAt c (p ++ c ∷ s) ≡ some (record { front = p; back = s })
-unfolding partAt has any
-parted-first c [] s e = rw (eq-eqb c c refl)
-parted-first c (b ∷ p) s e =
-    let t = either-false (eqb b c) (any (λ x. eqb x c) p) e in
-    rw (t .0, parted-first c p s (t .1))
-
 pub parted-found : (c : ℕ) (s : List ℕ) (i : ℕ) → findByte c 0 s ≡ At i → partAt c s ≡ some (record { front = take i s; back = drop (i + 1) s })
-parted-found c s i e = let t = byte-at c s i e in ap (partAt c) (parted c s i e) ∙ parted-first c (take i s) (drop (i + 1) s) (t .2)
-
-pub parted-none : (c : ℕ) (s : List ℕ) → has c s ≡ false → partAt c s ≡ none
-unfolding partAt has any
-parted-none c [] e = refl
-parted-none c (b ∷ s) e =
-    let t = either-false (eqb b c) (any (λ x. eqb x c) s) e in
-    rw (t .0, parted-none c s (t .1))
+parted-found c s i e = rw (part-start i s, part-rest (i + 1) s) at (found-parts c s (At i) (sym e) refl)
 
 pub parted-missing : (c : ℕ) (s : List ℕ) → findByte c 0 s ≡ Nothing → partAt c s ≡ none
-parted-missing c s e = parted-none c s (byte-none c 0 s e)
+parted-missing c s e = found-none c s Nothing (sym e) refl

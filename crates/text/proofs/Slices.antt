@@ -1,22 +1,21 @@
 -- The laws of comparing and searching.
-use mathlib.Core.Path.{_≡_, refl, sym, ap}
-use mathlib.Core.Bool.{Bool, true, false, cond, _&&_, _||_}
+use mathlib.Core.Path.{_≡_, refl, sym, ap, _∙_}
+use mathlib.Core.Bool.{Bool, true, false, cond, _&&_}
 use mathlib.Core.List.{List, [], _∷_, _++_}
-use Prim.Native.Nat.{ℕ, zero, suc, _+_, _-_, _≤_, _<_}
-use native.Mathlib.Nat.{add-zero}
+use mathlib.Core.Option.{Option, none, some, Option·map}
+use Prim.Native.Nat.{ℕ, suc, _+_, _-_, _≤_, _<_}
 use native.Mathlib.Omega.{arith}
 use borrow.Author.Tests.{eq-eqb, ne-eqb, eqb-true}
 use lib.Dec.{eqb}
 use lib.ListN.{length, length-append, take, drop, getD, drop-of-length-le, length-drop}
-use Rattle.text.specs.Lists.{any, has}
-use Rattle.text.proofs.Laws.{next, both-true, either-false, false-of, same-test}
+use Rattle.text.specs.Lists.{has}
+use Rattle.text.proofs.Laws.{next, part-rest, both-true, both-no, false-of, clash}
+use Rattle.text.specs.Parts.{Parts, withFirst, partAtPair}
+use Rattle.text.specs.declared.slice.Found.{Found}
 use Rattle.text.specs.declared.slice.Found.the-variants.{At, Nothing}
-use Rattle.text.specs.Slice.{findByte, same, startsWith, headIs, findPair}
-
-pub same-refl : (a : List ℕ) → same a a ≡ true
-unfolding same
-same-refl [] = refl
-same-refl (x ∷ a) = rw (eq-eqb x x refl) (same-refl a)
+use Rattle.text.specs.Slice.{same, startsWith, headIs, findPair}
+use Rattle.text.specs.Contract.{lead, findByte}
+use Rattle.text.proofs.Leads.{found-lead, missing-lead, lead-at, lead-before, lead-none}
 
 pub same-true : (a b : List ℕ) → same a b ≡ true → a ≡ b
 unfolding same
@@ -27,18 +26,6 @@ same-true (x ∷ a) (y ∷ b) e =
     let t = both-true (eqb x y) (same a b) e in
     let p = eqb-true x y (t .0) in
     let q = same-true a b (t .1) in cc
-
-pub same-of : (a b : List ℕ) → a ≡ b → same a b ≡ true
-same-of a b e = rw (← e) (same-refl a)
-
-pub same-false : (a b : List ℕ) → same a b ≡ false → a ≡ b → ⊥
-same-false a b n e = let t = same-of a b e in let z : _≡_ {A = ℕ} 0 1 = cc in omega arith
-
-pub same-other : (a b : List ℕ) → (a ≡ b → ⊥) → same a b ≡ false
-same-other a b h = false-of (same a b) (λ e. h (same-true a b e))
-
-pub same-swap : (a b : List ℕ) → same a b ≡ same b a
-same-swap a b = same-test (same a b) (same b a) (λ e. same-of b a (sym (same-true a b e))) (λ e. same-of a b (sym (same-true b a e)))
 
 pub same-length : (a b : List ℕ) → (length a ≡ length b → ⊥) → same a b ≡ false
 same-length a b h = false-of (same a b) (λ e. h (ap length (same-true a b e)))
@@ -55,34 +42,37 @@ pub same-end : (a b : List ℕ) (i : ℕ) → length a ≤ i → length b ≤ i 
 unfolding same
 same-end a b i h k = rw (drop-of-length-le a h, drop-of-length-le b k)
 
-pub starts-on : (p s : List ℕ) (i : ℕ) → i < length p → i < length s → getD s i 0 ≡ getD p i 0 → startsWith (drop (i + 1) p) (drop (i + 1) s) ≡ startsWith (drop i p) (drop i s)
-unfolding startsWith
-starts-on p s i h k e = rw (next p i, next s i, eq-eqb _ _ e)
+-- a beginning, by the part of the same length
+pub starts-same : (p s : List ℕ) → length p ≤ length s → same (take (length p) s) p ≡ startsWith p s
+unfolding same startsWith
+starts-same [] s h = refl
+starts-same (y ∷ p) [] h = absurd (omega arith)
+starts-same (y ∷ p) (x ∷ s) h = rw (starts-same p s (omega arith))
 
-pub starts-off : (p s : List ℕ) (i : ℕ) → i < length p → i < length s → (getD s i 0 ≡ getD p i 0 → ⊥) → startsWith (drop i p) (drop i s) ≡ false
+pub starts-long : (p s : List ℕ) → length s < length p → false ≡ startsWith p s
 unfolding startsWith
-starts-off p s i h k e = rw (next p i, next s i, ne-eqb _ _ e)
+starts-long [] s h = absurd (omega arith)
+starts-long (y ∷ p) [] h = refl
+starts-long (y ∷ p) (x ∷ s) h = rw (← starts-long p s (omega arith)) (sym (both-no (eqb x y)))
 
-pub starts-short : (p s : List ℕ) (i : ℕ) → i < length p → length s ≤ i → startsWith (drop i p) (drop i s) ≡ false
-unfolding startsWith
-starts-short p s i h k = rw (next p i, drop-of-length-le s k)
+-- the first byte
+pub head-none : (d : ℕ) (s : List ℕ) → length s ≡ 0 → false ≡ headIs d s
+unfolding headIs
+head-none d [] h = refl
+head-none d (y ∷ s) h = absurd (omega arith)
 
-pub starts-end : (p s : List ℕ) (i : ℕ) → length p ≤ i → startsWith (drop i p) (drop i s) ≡ true
-unfolding startsWith
-starts-end p s i h = rw (drop-of-length-le p h)
+pub head-some : (d : ℕ) (s : List ℕ) → (length s ≡ 0 → ⊥) → eqb (getD s 0 0) d ≡ headIs d s
+unfolding headIs
+head-some d [] h = absurd (h refl)
+head-some d (y ∷ s) h = refl
 
 abbrev pub pairAt : ℕ → ℕ → List ℕ → ℕ → Bool
 pairAt c d s i = eqb (getD s i 0) c && eqb (getD s (i + 1) 0) d
 
-head-is : (d : ℕ) (s : List ℕ) → headIs d s ≡ true → (0 < length s) × (getD s 0 0 ≡ d)
+pub head-is : (d : ℕ) (s : List ℕ) → headIs d s ≡ true → (0 < length s) × (getD s 0 0 ≡ d)
 unfolding headIs
-head-is d [] e = let z : _≡_ {A = ℕ} 0 1 = cc in absurd (omega arith)
+head-is d [] e = clash cc
 head-is d (y ∷ s) e = (omega arith, eqb-true y d e)
-
-head-of : (d : ℕ) (s : List ℕ) → 0 < length s → getD s 0 0 ≡ d → headIs d s ≡ true
-unfolding headIs
-head-of d [] h e = absurd (omega arith)
-head-of d (y ∷ s) h e = eq-eqb y d e
 
 pair-next : (c d : ℕ) (s : List ℕ) (i : ℕ) → i + 1 < length s → findPair c d i (drop i s) ≡ cond (pairAt c d s i) (At i) (findPair c d (i + 1) (drop (i + 1) s))
 unfolding findPair headIs
@@ -103,64 +93,20 @@ few c d at (x ∷ (y ∷ s)) h = absurd (omega arith)
 pub pair-end : (c d : ℕ) (s : List ℕ) (i : ℕ) → length s ≤ i + 1 → Nothing ≡ findPair c d i (drop i s)
 pair-end c d s i h = few c d i (drop i s) (rw length-drop (omega arith))
 
-pub byte-hit : (c : ℕ) (s : List ℕ) (i : ℕ) → i < length s → getD s i 0 ≡ c → At i ≡ findByte c i (drop i s)
-unfolding findByte
-byte-hit c s i h e = rw (next s i, eq-eqb _ _ e)
-
-pub byte-on : (c : ℕ) (s : List ℕ) (i : ℕ) → i < length s → (getD s i 0 ≡ c → ⊥) → findByte c (i + 1) (drop (i + 1) s) ≡ findByte c i (drop i s)
-unfolding findByte
-byte-on c s i h e = rw (next s i, ne-eqb _ _ e)
-
-pub byte-end : (c : ℕ) (s : List ℕ) (i : ℕ) → length s ≤ i → Nothing ≡ findByte c i (drop i s)
-unfolding findByte
-byte-end c s i h = rw (drop-of-length-le s)
-
 -- where a byte was found: its place, and that it does not stand before
-byte-found : (c at : ℕ) (s : List ℕ) (i : ℕ) → findByte c at s ≡ At i → (at ≤ i) × (i - at < length s) × (getD s (i - at) 0 ≡ c) × (has c (take (i - at) s) ≡ false)
-unfolding findByte has any
-byte-found c at [] i e = let z : _≡_ {A = ℕ} 0 1 = cc in absurd (omega arith)
-byte-found c at (x ∷ s) i e = go (eqb x c) refl (byte-found c (at + 1) s i) e
-  where
-    go : (t : Bool) → eqb x c ≡ t
-        → (findByte c (at + 1) s ≡ At i → (at + 1 ≤ i) × (i - (at + 1) < length s) × (getD s (i - (at + 1)) 0 ≡ c) × (has c (take (i - (at + 1)) s) ≡ false))
-        → cond t (At at) (findByte c (at + 1) s) ≡ At i
-        → (at ≤ i) × (i - at < suc (length s)) × (getD (x ∷ s) (i - at) 0 ≡ c) × (has c (take (i - at) (x ∷ s)) ≡ false)
-    go true t f e = let q : at ≡ i = cc in let z : i - at ≡ 0 = omega arith in rw z (omega arith, omega arith, eqb-true x c t, refl)
-    go false t f e =
-        let r = f e in
-        let z : i - at ≡ suc (i - (at + 1)) = omega (arith, r .0) in
-        rw z (omega (arith, r .0), omega (arith, r .1), r .2, rw t (r .3))
-
 pub byte-at : (c : ℕ) (s : List ℕ) (i : ℕ) → findByte c 0 s ≡ At i → (i < length s) × (getD s i 0 ≡ c) × (has c (take i s) ≡ false)
-byte-at c s i e = let z : i - 0 ≡ i = omega arith in let r = byte-found c 0 s i e in (rw z at (r .1), rw z at (r .2), rw z at (r .3))
+byte-at c s i e =
+    let t = found-lead c s i e in
+    let h : lead c s < length s = omega (arith, t .0, t .1) in
+    rw (t .0) (h, lead-at c s h, lead-before c s h)
 
 pub byte-none : (c at : ℕ) (s : List ℕ) → findByte c at s ≡ Nothing → has c s ≡ false
-unfolding findByte has any
-byte-none c at [] e = refl
-byte-none c at (x ∷ s) e = go (eqb x c) (byte-none c (at + 1) s) e
-  where
-    go : (t : Bool) → (findByte c (at + 1) s ≡ Nothing → has c s ≡ false) → cond t (At at) (findByte c (at + 1) s) ≡ Nothing → t || has c s ≡ false
-    go true f e = cc
-    go false f e = f e
-
-pub byte-missing : (c at : ℕ) (s : List ℕ) → has c s ≡ false → findByte c at s ≡ Nothing
-unfolding findByte has any
-byte-missing c at [] e = refl
-byte-missing c at (x ∷ s) e = let t = either-false (eqb x c) (has c s) e in rw (t .0) (byte-missing c (at + 1) s (t .1))
-
--- the place behind bytes that are none of them c
-pub byte-first : (c at : ℕ) (p s : List ℕ) → has c p ≡ false → findByte c at (p ++ c ∷ s) ≡ At (at + length p)
-unfolding findByte has any
-byte-first c at [] s e = rw (eq-eqb c c refl, add-zero)
-byte-first c at (x ∷ p) s e =
-    let t = either-false (eqb x c) (has c p) e in
-    let z : at + 1 + length p ≡ at + suc (length p) = omega arith in
-    rw (t .0, ← z) (byte-first c (at + 1) p s (t .1))
+byte-none c at s e = lead-none c s (missing-lead c at s e)
 
 -- where a pair was found
 pair-found : (c d at : ℕ) (s : List ℕ) (i : ℕ) → findPair c d at s ≡ At i → (at ≤ i) × (i - at + 1 < length s) × (getD s (i - at) 0 ≡ c) × (getD s (i - at + 1) 0 ≡ d)
 unfolding findPair
-pair-found c d at [] i e = let z : _≡_ {A = ℕ} 0 1 = cc in absurd (omega arith)
+pair-found c d at [] i e = clash cc
 pair-found c d at (x ∷ s) i e = go (eqb x c && headIs d s) refl (pair-found c d (at + 1) s i) e
   where
     go : (t : Bool) → eqb x c && headIs d s ≡ t
@@ -182,35 +128,41 @@ pair-found c d at (x ∷ s) i e = go (eqb x c && headIs d s) refl (pair-found c 
 pub pair-at : (c d : ℕ) (s : List ℕ) (i : ℕ) → findPair c d 0 s ≡ At i → (i + 1 < length s) × (getD s i 0 ≡ c) × (getD s (i + 1) 0 ≡ d)
 pair-at c d s i e = let z : i - 0 ≡ i = omega arith in let r = pair-found c d 0 s i e in (rw z at (r .1), rw z at (r .2), rw z at (r .3))
 
--- where a pair stands, one is found there or before
-pub pair-there : (c d at : ℕ) (s : List ℕ) (j : ℕ) → j + 1 < length s → getD s j 0 ≡ c → getD s (j + 1) 0 ≡ d → (k : ℕ) × (findPair c d at s ≡ At k) × (k ≤ at + j)
-unfolding findPair
-pair-there c d at [] j h p q = absurd (omega arith)
-pair-there c d at (x ∷ s) zero h p q = (at, rw (eq-eqb x c p, head-of d s (omega arith) q), omega arith)
-pair-there c d at (x ∷ s) (suc j) h p q =
-    let z : suc j + 1 ≡ suc (j + 1) = omega arith in
-    go (eqb x c && headIs d s) (pair-there c d (at + 1) s j (omega arith) p (rw z at q))
+-- the two parts, by the place of the pair
+abbrev pairParts : ℕ → List ℕ → Found → Option Parts
+pairParts at s (At i) = some (record { front = take (i - at) s; back = drop (i - at + 2) s })
+pairParts at s Nothing = none
+
+pair-parts : (c d at : ℕ) (s : List ℕ) → partAtPair c d s ≡ pairParts at s (findPair c d at s)
+unfolding findPair partAtPair
+pair-parts c d at [] = refl
+pair-parts c d at (x ∷ s) = go (eqb x c && headIs d s) (pair-parts c d (at + 1) s)
   where
-    go : (t : Bool) → (k : ℕ) × (findPair c d (at + 1) s ≡ At k) × (k ≤ at + 1 + j) → (k : ℕ) × (cond t (At at) (findPair c d (at + 1) s) ≡ At k) × (k ≤ at + suc j)
-    go true r = (at, refl, omega arith)
-    go false r = (r .0, r .1, omega (arith, r .2))
+    on : (q : Found) → findPair c d (at + 1) s ≡ q → Option·map (withFirst x) (pairParts (at + 1) s q) ≡ pairParts at (x ∷ s) q
+    on Nothing e = refl
+    on (At i) e =
+        let h = pair-found c d (at + 1) s i e .0 in
+        let y : i - at + 2 ≡ suc (i - (at + 1) + 2) = omega (arith, h) in
+        let z : i - at ≡ suc (i - (at + 1)) = omega (arith, h) in
+        rw (y, z)
 
--- the pair found is the first
-pub pair-before : (c d : ℕ) (s : List ℕ) (i j : ℕ) → findPair c d 0 s ≡ At i → j < i → getD s j 0 ≡ c → getD s (j + 1) 0 ≡ d → ⊥
-pair-before c d s i j e h p q =
-    let t = pair-at c d s i e in
-    let r = pair-there c d 0 s j (omega (arith, t .0)) p q in
-    let m = r .1 in
-    let k : r .0 ≡ i = cc in
-    omega (arith, r .2)
+    go : (t : Bool) → partAtPair c d s ≡ pairParts (at + 1) s (findPair c d (at + 1) s)
+        → cond t (some (record { front = []; back = drop 1 s })) (Option·map (withFirst x) (partAtPair c d s)) ≡ pairParts at (x ∷ s) (cond t (At at) (findPair c d (at + 1) s))
+    go true p = let z : at - at ≡ 0 = omega arith in rw z
+    go false p = ap (Option·map (withFirst x)) p ∙ on (findPair c d (at + 1) s) refl
 
-pub pair-none : (c d at : ℕ) (s : List ℕ) (j : ℕ) → findPair c d at s ≡ Nothing → j + 1 < length s → getD s j 0 ≡ c → getD s (j + 1) 0 ≡ d → ⊥
-pair-none c d at s j e h p q = let m = pair-there c d at s j h p q .1 in let z : _≡_ {A = ℕ} 0 1 = cc in omega arith
+-- a text parted at its first pair, as the code has its two parts
+module _ (c d : ℕ) (s : List ℕ) (r : Found) (f : r ≡ findPair c d 0 s) where
+  pub pair-within : {i : ℕ} → r ≡ At i → i + 2 ≤ length s
+  pair-within {i} e = let t = pair-at c d s i (sym f ∙ e) in omega (arith, t .0)
 
-pub starts-refl : (p s : List ℕ) → startsWith p (p ++ s) ≡ true
-unfolding startsWith
-starts-refl [] s = refl
-starts-refl (x ∷ p) s = rw (eq-eqb x x refl) (starts-refl p s)
+  pub pair-parted : {i : ℕ} → r ≡ At i → partAtPair c d s ≡ some (record { front = take (i - 0) (drop 0 s); back = take (length s - (i + 2)) (drop (i + 2) s) })
+  pair-parted {i} e =
+      let z : i - 0 + 2 ≡ i + 2 = omega arith in
+      pair-parts c d 0 s ∙ rw (sym f ∙ e, part-rest (i + 2) s, z)
+
+  pub pair-missing : r ≡ Nothing → partAtPair c d s ≡ none
+  pair-missing e = pair-parts c d 0 s ∙ rw (sym f ∙ e)
 
 pub starts-true : (p s : List ℕ) → startsWith p s ≡ true → p ++ drop (length p) s ≡ s
 unfolding startsWith

@@ -1,8 +1,10 @@
 pub mod Bytes
+pub mod Limits
 pub mod Lists
 pub mod Class
 pub mod Quote
 pub mod Slice
 pub mod Number
-pub mod Buffer
 pub mod Parts
+pub mod Contract
+pub mod Buffer

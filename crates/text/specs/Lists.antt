@@ -6,6 +6,7 @@ use mathlib.Core.Option.{Option, none, some}
 use lib.Dec.{eqb}
 
 module _ {A : Type 0} where
+  -- there is no element
   abbrev pub null : List A → Bool
   null [] = true
   null (x ∷ xs) = false
@@ -25,15 +26,10 @@ module _ {A : Type 0} where
   count f [] = 0
   count f (x ∷ xs) = cond (f x) (suc (count f xs)) (count f xs)
 
-  -- the first fault wins: the first that is one
+  -- the first that is something
   abbrev pub firstOf : Option A → Option A → Option A
   firstOf none o = o
   firstOf (some x) o = some x
-
-  -- the first of the faults that each element has
-  unfoldable pub firstFault : {B : Type 0} → (B → Option A) → List B → Option A
-  firstFault f [] = none
-  firstFault f (x ∷ xs) = firstOf (f x) (firstFault f xs)
 
 -- the byte is there
 unfoldable pub has : ℕ → List ℕ → Bool

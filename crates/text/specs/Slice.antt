@@ -5,6 +5,7 @@ use mathlib.Core.List.{List, [], _∷_}
 use lib.Dec.{eqb}
 use Rattle.text.specs.declared.slice.Found.{Found}
 use Rattle.text.specs.declared.slice.Found.the-variants.{At, Nothing}
+unfoldable pub use Rattle.text.specs.Contract.{findByte}
 
 -- the same bytes
 unfoldable pub same : List ℕ → List ℕ → Bool
@@ -28,8 +29,3 @@ headIs d (y ∷ s) = eqb y d
 unfoldable pub findPair : ℕ → ℕ → ℕ → List ℕ → Found
 findPair c d at [] = Nothing
 findPair c d at (x ∷ s) = cond (eqb x c && headIs d s) (At at) (findPair c d (at + 1) s)
-
--- the first place, counted from `at`, where c stands
-unfoldable pub findByte : ℕ → ℕ → List ℕ → Found
-findByte c at [] = Nothing
-findByte c at (x ∷ s) = cond (eqb x c) (At at) (findByte c (at + 1) s)

@@ -1,6 +1,6 @@
 // Bytes put into a lent buffer from a place on; the rest of it stays.
 ghost use mathlib.Core.List.{[], _∷_};
-ghost use Rattle.text.specs.Buffer.{Wrote};
+ghost use Rattle.text.specs.Contract.{Wrote};
 
 pub enum Filled {
     // The place after the last byte.

@@ -1,7 +1,7 @@
-// Decimal numbers of one to five digits, and a number kept within a limit.
+// Decimal numbers, and a number kept within a limit.
+pub use super::class::is_digit;
 ghost use Prim.Native.Nat.{_≤_, min};
 ghost use mathlib.Core.Path.{_≡_};
-ghost use Rattle.text.specs.Class.{digit};
 ghost use Rattle.text.specs.Number.{numberOf};
 
 pub enum Number {
@@ -9,10 +9,9 @@ pub enum Number {
     Malformed,
 }
 
-pub fn is_digit(b: u8) -> bool
-    ensures { λ r. ⌜ r ≡ digit b ⌝ }
-{
-    b >= 48 && b <= 57
+impl Number {
+    // The most digits of a number; it has at least one.
+    pub const DIGITS: usize = 5;
 }
 
 fn wide(b: u8) -> u32
@@ -21,13 +20,14 @@ fn wide(b: u8) -> u32
     b as u32
 }
 
+// The number that digits write.
 pub fn decimal(s: &[u8]) -> Number
     ensures { λ r. ⌜ r ≡ numberOf (now (s .entry)) ⌝ }
 {
     if s.len() == 0 {
         return Number::Malformed;
     }
-    if s.len() > 5 {
+    if s.len() > Number::DIGITS {
         return Number::Malformed;
     }
     let mut v: u32 = 0;
@@ -37,7 +37,7 @@ pub fn decimal(s: &[u8]) -> Number
         if !is_digit(b) {
             return Number::Malformed;
         }
-        v = v * 10 + wide(b - 48);
+        v = v * 10 + wide(b - b'0');
         i += 1;
     }
     Number::Value(v)

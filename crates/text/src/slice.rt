@@ -1,10 +1,13 @@
 // Comparing and searching slices.
-use super::class::is_name_byte;
+use super::alphabet::Alphabet;
+use super::alphabet::all_in;
+ghost use Prim.Native.Nat.{_+_, _≤_};
 ghost use mathlib.Core.Path.{_≡_};
-ghost use mathlib.Core.Bool.{not};
+ghost use lib.ListN.{length, drop};
 ghost use Rattle.text.specs.Class.{nameByte};
 ghost use Rattle.text.specs.Lists.{all};
-ghost use Rattle.text.specs.Slice.{same, startsWith, findPair, findByte};
+ghost use Rattle.text.specs.Slice.{same, startsWith, headIs, findPair, findByte};
+ghost use Rattle.text.specs.Contract.{lead};
 
 // A place in a slice, or that there is none.
 pub enum Found {
@@ -12,6 +15,7 @@ pub enum Found {
     Nothing,
 }
 
+// Whether both have the same bytes.
 pub fn equal(a: &[u8], b: &[u8]) -> bool
     ensures { λ r. ⌜ r ≡ same (now (a .entry)) (now (b .entry)) ⌝ }
 {
@@ -32,15 +36,22 @@ pub fn equal(a: &[u8], b: &[u8]) -> bool
 pub fn starts_with(s: &[u8], p: &[u8]) -> bool
     ensures { λ r. ⌜ r ≡ startsWith (now (p .entry)) (now (s .entry)) ⌝ }
 {
-    let mut i = 0;
-    while i < p.len() {
-        if i < s.len() && s[i] == p[i] {
-            i += 1;
-        } else {
-            return false;
-        }
+    let n = p.len();
+    if n <= s.len() {
+        equal(&s[0..n], p)
+    } else {
+        false
     }
-    true
+}
+
+// Whether the first byte is c.
+pub fn head_is(s: &[u8], c: u8) -> bool
+    ensures { λ r. ⌜ r ≡ headIs c (now (s .entry)) ⌝ }
+{
+    if s.len() == 0 {
+        return false;
+    }
+    s[0] == c
 }
 
 // The first place where c and then d stand.
@@ -57,16 +68,27 @@ pub fn find_pair(s: &[u8], c: u8, d: u8) -> Found
     Found::Nothing
 }
 
+// The place of the first byte c from a place on, or the end.
+pub fn byte_from(s: &[u8], from: usize, c: u8) -> usize
+    ensures { λ r. ⌜ (r ≡ from + lead c (drop from (now (s .entry)))) × (from ≤ r) × (from ≤ length (now (s .entry)) → r ≤ length (now (s .entry))) ⌝ }
+{
+    let mut i = from;
+    while i < s.len() {
+        if s[i] == c {
+            return i;
+        }
+        i += 1;
+    }
+    i
+}
+
 // The first place where c stands.
 pub fn find_byte(s: &[u8], c: u8) -> Found
     ensures { λ r. ⌜ r ≡ findByte c 0 (now (s .entry)) ⌝ }
 {
-    let mut i = 0;
-    while i < s.len() {
-        if s[i] == c {
-            return Found::At(i);
-        }
-        i += 1;
+    let i = byte_from(s, 0, c);
+    if i < s.len() {
+        return Found::At(i);
     }
     Found::Nothing
 }
@@ -75,12 +97,5 @@ pub fn find_byte(s: &[u8], c: u8) -> Found
 pub fn all_name_bytes(s: &[u8]) -> bool
     ensures { λ r. ⌜ r ≡ all nameByte (now (s .entry)) ⌝ }
 {
-    let mut i = 0;
-    while i < s.len() {
-        if !is_name_byte(s[i]) {
-            return false;
-        }
-        i += 1;
-    }
-    true
+    all_in(s, Alphabet::Name)
 }

@@ -1,108 +1,61 @@
 -- The laws of clock times.
-use mathlib.Core.Path.{_≡_, refl, sym, ap, _∙_}
-use mathlib.Core.Bool.{Bool, true, false, cond}
+use mathlib.Core.Path.{_≡_, sym, ap, _∙_}
 use mathlib.Core.List.{List}
-use mathlib.Core.Option.{Option, none, some}
-use Prim.Native.Nat.{ℕ, _+_, _*_, _-_, _≤_, _<_}
-use native.Mathlib.Omega.{arith}
-use borrow.Author.Tests.{eq-eqb, ne-eqb, le-leb, lt-leb, leb-true}
-use lib.Dec.{eqb, leb}
+use mathlib.Core.Option.{Option, none, some, bind}
+use Prim.Native.Nat.{ℕ, _+_, _-_, _≤_, _<_}
+use borrow.Author.Tests.{eq-eqb, ne-eqb, le-leb, lt-leb}
 use lib.ListN.{length, take, drop}
 use Rattle.text.specs.Number.{numberOf}
-use Rattle.text.specs.Slice.{findByte}
+use Rattle.text.specs.Contract.{findByte, numberRead}
 use Rattle.text.specs.declared.number.Number.{Number}
 use Rattle.text.specs.declared.number.Number.the-variants.{Value, Malformed}
 use Rattle.text.specs.declared.slice.Found.{Found}
 use Rattle.text.specs.declared.slice.Found.the-variants.{At, Nothing}
-use Rattle.text.proofs.Numbers.{number-bound}
-use Rattle.times.specs.Clock.{valueOf, hourOf, minuteOf, atMost, minuteAt, clockParts, clockOf}
-use Rattle.times.proofs.Parted.{found-parts, found-none}
+use Rattle.text.proofs.Laws.{bind-none, bind-some}
+use Rattle.text.proofs.Leads.{found-parts, found-none}
+use Rattle.text.proofs.Numbers.{number-read}
+use Rattle.times.specs.Clock.{lastMinute, notAbove, hourOf, minuteOf, minuteAt, clockParts, clockOf}
 
-valued : (n : Number) (w : ℕ) → valueOf n ≡ some w → n ≡ Value w
-valued (Value v) w e = let q : v ≡ w = cc in rw q
-valued Malformed w e = cc
+-- a number and its limit
+pub above : (most v : ℕ) → most < v → none ≡ notAbove most v
+above most v h = rw (lt-leb v most h)
 
-pick-some : (t : Bool) (o : Option ℕ) (w : ℕ) → cond t o none ≡ some w → (t ≡ true) × (o ≡ some w)
-pick-some true o w e = (refl, e)
-pick-some false o w e = (cc, cc)
-
-most-some : (most : ℕ) (o : Option ℕ) (w : ℕ) → atMost most o ≡ some w → w ≤ most
-most-some most none w e = let z : _≡_ {A = ℕ} 0 1 = cc in absurd (omega arith)
-most-some most (some v) w e =
-    let t = pick-some (leb v most) (some v) w e in
-    let u = t .1 in
-    let q : v ≡ w = cc in
-    rw q at (leb-true v most (t .0))
-
-pub clock-late : (h m : ℕ) → 1440 < h * 60 + m → none ≡ atMost 1440 (some (h * 60 + m))
-clock-late h m k = rw (lt-leb (h * 60 + m) 1440 k)
-
-pub clock-in : (h m : ℕ) → h * 60 + m ≤ 1440 → some (h * 60 + m) ≡ atMost 1440 (some (h * 60 + m))
-clock-in h m k = rw (le-leb (h * 60 + m) 1440 k)
+pub not-above : (most v : ℕ) → v ≤ most → some v ≡ notAbove most v
+not-above most v h = rw (le-leb v most h)
 
 module _ (s : List ℕ) where
   pub hour-long : 2 < length s → none ≡ hourOf s
   unfolding hourOf
   hour-long h = rw (lt-leb (length s) 2 h)
 
-  pub hour-in : {r : Number} → length s ≤ 2 → r ≡ numberOf s → valueOf r ≡ hourOf s
+  pub hour-in : {r : Number} → length s ≤ 2 → r ≡ numberOf s → numberRead r ≡ hourOf s
   unfolding hourOf
-  hour-in h e = rw (le-leb (length s) 2 h, e)
-
-  pub hour-bound : {h : ℕ} → some h ≡ hourOf s → h < 100000
-  unfolding hourOf
-  hour-bound {h} e = number-bound s h (valued (numberOf s) h (pick-some (leb (length s) 2) (valueOf (numberOf s)) h (sym e) .1))
+  hour-in h e = number-read s e ∙ rw (le-leb (length s) 2 h)
 
   pub minute-other : (length s ≡ 2 → ⊥) → none ≡ minuteOf s
   unfolding minuteOf
   minute-other h = rw (ne-eqb (length s) 2 h)
 
-  pub minute-bound : {m : ℕ} → some m ≡ minuteOf s → m < 100000
-  unfolding minuteOf
-  minute-bound {m} e =
-      let k = most-some 59 (valueOf (numberOf s)) m (pick-some (eqb (length s) 2) (atMost 59 (valueOf (numberOf s))) m (sym e) .1) in
-      omega (arith, k)
+  module _ {r : Number} (h : length s ≡ 2) (e : r ≡ numberOf s) where
+    spelled : bind (numberRead r) (notAbove lastMinute) ≡ minuteOf s
+    unfolding minuteOf
+    spelled = rw (eq-eqb (length s) 2 h, number-read s e)
 
-  module _ (r : Number) (h : length s ≡ 2) (e : r ≡ numberOf s) where
     pub minute-none : r ≡ Malformed → none ≡ minuteOf s
-    unfolding minuteOf
-    minute-none f = rw (eq-eqb (length s) 2 h, sym e ∙ f)
+    minute-none f = bind-none (notAbove lastMinute) (ap numberRead f) ∙ spelled
 
-    pub minute-late : {m : ℕ} → r ≡ Value m → 59 < m → none ≡ minuteOf s
-    unfolding minuteOf
-    minute-late {m} f k = rw (eq-eqb (length s) 2 h, sym e ∙ f, lt-leb m 59 k)
+    pub minute-late : {m : ℕ} → r ≡ Value m → lastMinute < m → none ≡ minuteOf s
+    minute-late {m} f k = bind-some (notAbove lastMinute) (ap numberRead f) (above lastMinute m k) ∙ spelled
 
-    pub minute-in : {m : ℕ} → r ≡ Value m → m ≤ 59 → some m ≡ minuteOf s
-    unfolding minuteOf
-    minute-in {m} f k = rw (eq-eqb (length s) 2 h, sym e ∙ f, le-leb m 59 k)
+    pub minute-in : {m : ℕ} → r ≡ Value m → m ≤ lastMinute → some m ≡ minuteOf s
+    minute-in {m} f k = bind-some (notAbove lastMinute) (ap numberRead f) (not-above lastMinute m k) ∙ spelled
 
--- the hour was read
-module _ (s : List ℕ) (r : Number) (e : valueOf r ≡ hourOf s) where
-  pub no-hour : (o : Option ℕ) → r ≡ Malformed → none ≡ minuteAt (hourOf s) o
-  no-hour o f = rw (sym e ∙ ap valueOf f)
-
-  module _ {h : ℕ} (f : r ≡ Value h) where
-    pub its-hour : some h ≡ hourOf s
-    its-hour = ap valueOf (sym f) ∙ e
-
-    pub hour-alone : {x : Option ℕ} → x ≡ atMost 1440 (some (h * 60 + 0)) → x ≡ minuteAt (hourOf s) (some 0)
-    hour-alone y = y ∙ rw (sym its-hour)
-
-    module _ (t : List ℕ) (q : Number) (g : valueOf q ≡ minuteOf t) where
-      pub no-minute : q ≡ Malformed → none ≡ minuteAt (hourOf s) (minuteOf t)
-      no-minute k = rw (sym its-hour, sym g ∙ ap valueOf k)
-
-      pub its-minute : {m : ℕ} → q ≡ Value m → some m ≡ minuteOf t
-      its-minute k = ap valueOf (sym k) ∙ g
-
-      pub hour-minute : {m : ℕ} {x : Option ℕ} → q ≡ Value m → x ≡ atMost 1440 (some (h * 60 + m)) → x ≡ minuteAt (hourOf s) (minuteOf t)
-      hour-minute k y = y ∙ rw (sym its-hour, sym (its-minute k))
-
+-- the hour alone, or the hour and the minute
 module _ (s : List ℕ) (r : Found) (f : r ≡ findByte 58 0 s) where
-  pub clock-alone : {x : Option ℕ} → r ≡ Nothing → x ≡ minuteAt (hourOf s) (some 0) → x ≡ clockOf s
+  pub clock-alone : {x h : Option ℕ} → r ≡ Nothing → h ≡ hourOf s → x ≡ minuteAt h (some 0) → x ≡ clockOf s
   unfolding clockOf
-  clock-alone e y = y ∙ sym (ap (clockParts s) (found-none 58 s r f e))
+  clock-alone e p y = y ∙ rw p (sym (ap (clockParts s) (found-none 58 s r f e)))
 
-  pub clock-parts : {i : ℕ} {x : Option ℕ} → r ≡ At i → x ≡ minuteAt (hourOf (take (i - 0) (drop 0 s))) (minuteOf (take (length s - (i + 1)) (drop (i + 1) s))) → x ≡ clockOf s
+  pub clock-parts : {i : ℕ} {x h m : Option ℕ} → r ≡ At i → h ≡ hourOf (take (i - 0) (drop 0 s)) → m ≡ minuteOf (take (length s - (i + 1)) (drop (i + 1) s)) → x ≡ minuteAt h m → x ≡ clockOf s
   unfolding clockOf
-  clock-parts e y = y ∙ sym (ap (clockParts s) (found-parts 58 s r f e))
+  clock-parts e p q y = y ∙ rw (p, q) (sym (ap (clockParts s) (found-parts 58 s r f e)))

@@ -1,24 +1,30 @@
 -- The laws of the day names.
 use mathlib.Core.Path.{_≡_, refl, sym}
-use mathlib.Core.Bool.{Bool, true, false, cond, _&&_}
-use mathlib.Core.List.{List, [], _∷_}
+use mathlib.Core.Bool.{true, false, cond}
+use mathlib.Core.List.{List, [], _∷_, _++_}
 use mathlib.Core.Option.{none, some}
 use Prim.Native.Nat.{ℕ, _+_, _*_, _≤_, _<_}
-use native.Mathlib.Omega.{arith}
 use borrow.Author.Tests.{eq-eqb, ne-eqb, le-leb, lt-leb}
-use lib.Dec.{eqb, lit≤}
+use lib.Dec.{lit≤}
 use lib.ListN.{length, take, drop, getD, drop-of-length-le}
 use lib.Seq.{getD-take, getD-drop}
 use Rattle.text.specs.Bytes.{bytes}
 use Rattle.text.specs.Slice.{same}
-use Rattle.text.proofs.Laws.{next, next-of, below, both-yes}
-use Rattle.times.specs.declared.item.Day.the-variants.{Every, Only}
+use Rattle.text.proofs.Laws.{next, next-of, below}
+use Rattle.times.specs.declared.day.Day.the-variants.{Every, Only}
 use Rattle.times.specs.Day.{dayNames, lowerOf, shortens, dayAmong, dayOf}
 
 -- what the code's tables hold: nine bytes for each name, and the names' lengths
 unfoldable pub nameBytes : List ℕ
 nameBytes =
-    109 ∷ 111 ∷ 110 ∷ 100 ∷ 97 ∷ 121 ∷ 0 ∷ 0 ∷ 0 ∷ 116 ∷ 117 ∷ 101 ∷ 115 ∷ 100 ∷ 97 ∷ 121 ∷ 0 ∷ 0 ∷ 119 ∷ 101 ∷ 100 ∷ 110 ∷ 101 ∷ 115 ∷ 100 ∷ 97 ∷ 121 ∷ 116 ∷ 104 ∷ 117 ∷ 114 ∷ 115 ∷ 100 ∷ 97 ∷ 121 ∷ 0 ∷ 102 ∷ 114 ∷ 105 ∷ 100 ∷ 97 ∷ 121 ∷ 0 ∷ 0 ∷ 0 ∷ 115 ∷ 97 ∷ 116 ∷ 117 ∷ 114 ∷ 100 ∷ 97 ∷ 121 ∷ 0 ∷ 115 ∷ 117 ∷ 110 ∷ 100 ∷ 97 ∷ 121 ∷ 0 ∷ 0 ∷ 0 ∷ []
+    bytes "monday"
+    ++ 0 ∷ 0 ∷ 0 ∷ bytes "tuesday"
+    ++ 0 ∷ 0 ∷ bytes "wednesday"
+    ++ bytes "thursday"
+    ++ 0 ∷ bytes "friday"
+    ++ 0 ∷ 0 ∷ 0 ∷ bytes "saturday"
+    ++ 0 ∷ bytes "sunday"
+    ++ 0 ∷ 0 ∷ 0 ∷ []
 
 unfoldable pub nameLengths : List ℕ
 nameLengths = 6 ∷ 7 ∷ 9 ∷ 8 ∷ 6 ∷ 8 ∷ 6 ∷ []
@@ -80,22 +86,6 @@ day-on d s h t = rw (day-next d s h, t)
 pub day-end : (d : ℕ) (s : List ℕ) → 7 ≤ d → none ≡ dayAmong d (drop d dayNames) s
 unfolding dayAmong
 day-end d s h = let k : length dayNames ≤ d = rw seven h in rw (drop-of-length-le dayNames)
-
-pub star-other : (s : List ℕ) → (length s ≡ 1 → ⊥) → false ≡ same s (bytes "*")
-unfolding same
-star-other [] h = refl
-star-other (b ∷ []) h = absurd (h refl)
-star-other (b ∷ (x ∷ s)) h = go (eqb b 42)
-  where
-    go : (t : Bool) → false ≡ t && false
-    go true = refl
-    go false = refl
-
-pub star-one : (s : List ℕ) → length s ≡ 1 → eqb (getD s 0 0) 42 ≡ same s (bytes "*")
-unfolding same
-star-one [] h = absurd (omega arith)
-star-one (b ∷ []) h = sym (both-yes (eqb b 42))
-star-one (b ∷ (x ∷ s)) h = absurd (omega arith)
 
 pub day-star : (s : List ℕ) → same s (bytes "*") ≡ true → some Every ≡ dayOf s
 unfolding dayOf

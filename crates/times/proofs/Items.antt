@@ -1,160 +1,110 @@
--- The laws of spans and items.
+-- The laws of periods and items.
 use mathlib.Core.Path.{_≡_, refl, sym, ap, _∙_}
-use mathlib.Core.Bool.{true, false, cond}
+use mathlib.Core.Bool.{Bool, true, false, cond}
 use mathlib.Core.List.{List, [], _∷_}
-use mathlib.Core.Option.{Option, none, some}
+use mathlib.Core.Option.{Option, none, some, Option·map, bind, orElse}
 use Prim.Native.Nat.{ℕ, _+_, _-_, _≤_, _<_, _/_, _%_}
 use native.Mathlib.Omega.{arith}
 use borrow.Author.Tests.{eq-eqb, ne-eqb, le-leb, lt-leb}
-use lib.Dec.{eqb, leb, ltb}
+use lib.Dec.{eqb, ltb}
 use lib.ListN.{length, take, drop, getD}
-use Rattle.text.specs.Lists.{firstOf}
-use Rattle.text.specs.Slice.{headIs, findByte}
+use Rattle.text.specs.Slice.{headIs}
+use Rattle.text.specs.Contract.{findByte}
 use Rattle.text.specs.declared.slice.Found.{Found}
 use Rattle.text.specs.declared.slice.Found.the-variants.{At, Nothing}
-use Rattle.text.proofs.Laws.{part-rest}
+use Rattle.text.proofs.Laws.{part-rest, bind-none, bind-some}
+use Rattle.text.proofs.Leads.{found-parts, found-none}
 use Rattle.times.specs.declared.clock.ClockRead.{ClockRead}
+use Rattle.times.specs.declared.day.Day.{Day}
+use Rattle.times.specs.declared.day.Day.the-variants.{Every, Only}
 use Rattle.times.specs.declared.day.DayRead.{DayRead}
-use Rattle.times.specs.declared.item.Day.{Day}
-use Rattle.times.specs.declared.item.Day.the-variants.{Every, Only}
-use Rattle.times.specs.declared.item.Span.{Span}
-use Rattle.times.specs.declared.item.Span.the-variants.{Between, Before, After, UpTo, Since, AllDay}
+use Rattle.times.specs.declared.day.DayRead.the-variants.{Is, Malformed}
+use Rattle.times.specs.declared.period.Period.{Period}
 use Rattle.times.specs.declared.item.TimeItem.{TimeItem}
-use Rattle.times.specs.declared.item.SpanRead.{SpanRead}
-use Rattle.times.specs.declared.item.SpanRead.the-variants.{Is, Malformed}
 use Rattle.times.specs.declared.item.ItemRead.{ItemRead}
-use Rattle.times.specs.Day.{dayOf, dayRead}
-use Rattle.times.specs.Clock.{clockOf, clockRead}
-use Rattle.times.specs.Item.{spanFrom, compared, ordered, rangeParts, rangeOf, spanOf, itemFrom, itemParts, itemOf, onDay, inSpan, itemMatches, spanRead, itemRead, itemAnswer}
-use Rattle.times.proofs.Parted.{found-parts, found-none}
-use Rattle.times.specs.declared.clock.ClockRead.the-variants.{At as Clock, Malformed as NoClock}
-use Rattle.times.specs.declared.day.DayRead.the-variants.{Is as IsDay, Malformed as NoDay}
+use Rattle.times.specs.Day.{dayOf}
+use Rattle.times.specs.Clock.{dayMinutes, clockOf}
+use Rattle.times.specs.Item.{period, minutesBefore, minutesAfter, compared, fromTo, clockRange, periodOf, itemFrom, itemParts, itemOf, onDay, inPeriod, itemMatches}
+use Rattle.times.specs.Contract.{clockRead, dayRead, itemRead, side, itemAnswer}
+use Rattle.times.specs.declared.clock.ClockRead.the-variants.{At as Clock}
 use Rattle.times.specs.declared.item.ItemRead.the-variants.{Item, Malformed as NoItem}
 use Rattle.times.specs.declared.item.ItemAnswer.the-variants.{Matches, Misses, Malformed as NoAnswer}
 
-pub equals-none : (s : List ℕ) → length s ≡ 0 → false ≡ headIs 61 s
-unfolding headIs
-equals-none [] h = refl
-equals-none (b ∷ s) h = absurd (omega arith)
+-- the minutes beside a clock time
+pub beside-is : {clock : ClockRead} {less counts : Bool} (l k : Bool) {m : ℕ} → clock ≡ Clock m → less ≡ l → counts ≡ k → some (side l k m) ≡ Option·map (side less counts) (clockRead clock)
+beside-is l k e p q = rw (e, p, q)
 
-pub equals-head : (s : List ℕ) → (length s ≡ 0 → ⊥) → eqb (getD s 0 0) 61 ≡ headIs 61 s
-unfolding headIs
-equals-head [] h = absurd (h refl)
-equals-head (b ∷ s) h = refl
+-- what stands behind `<` or `>`, with `=` and without
+module _ (side : Bool → ℕ → Period) (s : List ℕ) {x : Option Period} {o : Option ℕ} where
+  pub compared-equal : headIs 61 s ≡ true → o ≡ clockOf (take (length s - 1) (drop 1 s)) → x ≡ Option·map (side true) o → x ≡ compared side s
+  unfolding compared
+  compared-equal t e y = y ∙ rw (t, e, part-rest 1 s)
 
-pub equals-some : (s : List ℕ) → headIs 61 s ≡ true → 1 ≤ length s
-unfolding headIs
-equals-some [] e = let z : _≡_ {A = ℕ} 0 1 = cc in absurd (omega arith)
-equals-some (b ∷ s) e = omega arith
-
--- what a clock time makes of a comparison, with `=` and without
-module _ (strict loose : ℕ → Span) (s : List ℕ) (r : ClockRead) where
-  module _ (t : headIs 61 s ≡ true) (e : clockRead r ≡ clockOf (take (length s - 1) (drop 1 s))) where
-    told : compared strict loose s ≡ spanFrom loose (clockRead r)
-    unfolding compared
-    told = let k : take (length s - 1) (drop 1 s) ≡ drop 1 s = part-rest 1 s in rw (t, e, k)
-
-    pub loose-none : r ≡ NoClock → none ≡ compared strict loose s
-    loose-none f = rw (told, f)
-
-    pub loose-in : {m : ℕ} → r ≡ Clock m → some (loose m) ≡ compared strict loose s
-    loose-in f = rw (told, f)
-
-  module _ (t : headIs 61 s ≡ false) (e : clockRead r ≡ clockOf s) where
-    told-strict : compared strict loose s ≡ spanFrom strict (clockRead r)
-    unfolding compared
-    told-strict = rw (t, e)
-
-    pub strict-none : r ≡ NoClock → none ≡ compared strict loose s
-    strict-none f = rw (told-strict, f)
-
-    pub strict-in : {m : ℕ} → r ≡ Clock m → some (strict m) ≡ compared strict loose s
-    strict-in f = rw (told-strict, f)
+  pub compared-other : headIs 61 s ≡ false → o ≡ clockOf s → x ≡ Option·map (side false) o → x ≡ compared side s
+  unfolding compared
+  compared-other t e y = y ∙ rw (t, e)
 
 -- the two ends of a range
-module _ (s t : List ℕ) (r : ClockRead) (e : clockRead r ≡ clockOf s) where
-  pub no-first : r ≡ NoClock → none ≡ ordered (clockOf s) (clockOf t)
-  no-first f = rw (sym e ∙ ap clockRead f)
+module _ {start last : Option ℕ} {a b : ℕ} (p : start ≡ some a) (q : last ≡ some b) where
+  pub ends-turned : b < a → none ≡ fromTo start last
+  ends-turned h = bind-some _ p (bind-some _ q (rw (lt-leb a b h)))
 
-  module _ {a : ℕ} (f : r ≡ Clock a) (q : ClockRead) (g : clockRead q ≡ clockOf t) where
-    pub no-last : q ≡ NoClock → none ≡ ordered (clockOf s) (clockOf t)
-    no-last k = rw (sym e ∙ ap clockRead f, sym g ∙ ap clockRead k)
-
-    pub ends-turned : {b : ℕ} → q ≡ Clock b → b < a → none ≡ ordered (clockOf s) (clockOf t)
-    ends-turned {b} k h = rw (sym e ∙ ap clockRead f, sym g ∙ ap clockRead k, lt-leb a b h)
-
-    pub ends-in : {b : ℕ} → q ≡ Clock b → a ≤ b → some (Between a b) ≡ ordered (clockOf s) (clockOf t)
-    ends-in {b} k h = rw (sym e ∙ ap clockRead f, sym g ∙ ap clockRead k, le-leb a b h)
+  pub ends-in : a ≤ b → some (period a (b + 1)) ≡ fromTo start last
+  ends-in h = bind-some _ p (bind-some _ q (rw (le-leb a b h)))
 
 module _ (s : List ℕ) (r : Found) (f : r ≡ findByte 45 0 s) where
-  pub range-none : r ≡ Nothing → none ≡ rangeOf s
-  unfolding rangeOf
-  range-none e = sym (ap rangeParts (found-none 45 s r f e))
+  pub range-none : r ≡ Nothing → none ≡ clockRange s
+  unfolding clockRange
+  range-none e = bind-none _ (found-none 45 s r f e)
 
-  pub range-parts : {i : ℕ} {x : Option Span} → r ≡ At i → x ≡ ordered (clockOf (take (i - 0) (drop 0 s))) (clockOf (take (length s - (i + 1)) (drop (i + 1) s))) → x ≡ rangeOf s
-  unfolding rangeOf
-  range-parts e y = y ∙ sym (ap rangeParts (found-parts 45 s r f e))
+  pub range-parts : {i : ℕ} {x : Option Period} {a b : Option ℕ} → r ≡ At i → a ≡ clockOf (take (i - 0) (drop 0 s)) → b ≡ clockOf (take (length s - (i + 1)) (drop (i + 1) s)) → x ≡ fromTo a b → x ≡ clockRange s
+  unfolding clockRange
+  range-parts e p q y = bind-some _ (found-parts 45 s r f e) (y ∙ rw (p, q))
 
--- a span, by its first byte
-pub span-none : (s : List ℕ) → length s ≡ 0 → none ≡ spanOf s
-unfolding spanOf
-span-none [] h = refl
-span-none (b ∷ s) h = absurd (omega arith)
+-- a period, by its first byte
+pub period-none : (s : List ℕ) → length s ≡ 0 → none ≡ periodOf s
+unfolding periodOf
+period-none [] h = refl
+period-none (b ∷ s) h = absurd (omega arith)
 
 module _ (s : List ℕ) (n : length s ≡ 0 → ⊥) where
-  spelled : spanOf s ≡ cond (eqb (getD s 0 0) 60) (compared Before UpTo (drop 1 s)) (cond (eqb (getD s 0 0) 62) (compared After Since (drop 1 s)) (rangeOf s))
-  unfolding spanOf
+  spelled : periodOf s ≡ cond (eqb (getD s 0 0) 60) (compared minutesBefore (drop 1 s)) (cond (eqb (getD s 0 0) 62) (compared minutesAfter (drop 1 s)) (clockRange s))
+  unfolding periodOf
   spelled = go s n
     where
-      go : (s : List ℕ) → (length s ≡ 0 → ⊥) → spanOf s ≡ cond (eqb (getD s 0 0) 60) (compared Before UpTo (drop 1 s)) (cond (eqb (getD s 0 0) 62) (compared After Since (drop 1 s)) (rangeOf s))
+      go : (s : List ℕ) → (length s ≡ 0 → ⊥) → periodOf s ≡ cond (eqb (getD s 0 0) 60) (compared minutesBefore (drop 1 s)) (cond (eqb (getD s 0 0) 62) (compared minutesAfter (drop 1 s)) (clockRange s))
       go [] n = absurd (n refl)
       go (b ∷ s) n = refl
 
-  pub span-less : {x : Option Span} → getD s 0 0 ≡ 60 → x ≡ compared Before UpTo (take (length s - 1) (drop 1 s)) → x ≡ spanOf s
-  span-less e y = y ∙ rw (spelled, part-rest 1 s, eq-eqb (getD s 0 0) 60 e)
+  pub period-less : {x : Option Period} → getD s 0 0 ≡ 60 → x ≡ compared minutesBefore (take (length s - 1) (drop 1 s)) → x ≡ periodOf s
+  period-less e y = y ∙ rw (spelled, part-rest 1 s, eq-eqb (getD s 0 0) 60 e)
 
   module _ (l : getD s 0 0 ≡ 60 → ⊥) where
-    pub span-more : {x : Option Span} → getD s 0 0 ≡ 62 → x ≡ compared After Since (take (length s - 1) (drop 1 s)) → x ≡ spanOf s
-    span-more e y = y ∙ rw (spelled, part-rest 1 s, ne-eqb (getD s 0 0) 60 l, eq-eqb (getD s 0 0) 62 e)
+    pub period-more : {x : Option Period} → getD s 0 0 ≡ 62 → x ≡ compared minutesAfter (take (length s - 1) (drop 1 s)) → x ≡ periodOf s
+    period-more e y = y ∙ rw (spelled, part-rest 1 s, ne-eqb (getD s 0 0) 60 l, eq-eqb (getD s 0 0) 62 e)
 
-    pub span-range : {x : Option Span} → (getD s 0 0 ≡ 62 → ⊥) → x ≡ rangeOf s → x ≡ spanOf s
-    span-range e y = y ∙ rw (spelled, ne-eqb (getD s 0 0) 60 l, ne-eqb (getD s 0 0) 62 e)
-
--- a span and its day
-module _ (s t : List ℕ) (r : SpanRead) (e : spanRead r ≡ spanOf s) where
-  pub no-span : r ≡ Malformed → none ≡ itemFrom (spanOf s) (dayOf t)
-  no-span f = rw (sym e ∙ ap spanRead f)
-
-  module _ {x : Span} (f : r ≡ Is x) (q : DayRead) (g : dayRead q ≡ dayOf t) where
-    pub no-day : q ≡ NoDay → none ≡ itemFrom (spanOf s) (dayOf t)
-    no-day k = rw (sym e ∙ ap spanRead f, sym g ∙ ap dayRead k)
-
-    pub span-day : {d : Day} → q ≡ IsDay d → some (record { span = x; day = d }) ≡ itemFrom (spanOf s) (dayOf t)
-    span-day k = rw (sym e ∙ ap spanRead f, sym g ∙ ap dayRead k)
+    pub period-range : {x : Option Period} → (getD s 0 0 ≡ 62 → ⊥) → x ≡ clockRange s → x ≡ periodOf s
+    period-range e y = y ∙ rw (spelled, ne-eqb (getD s 0 0) 60 l, ne-eqb (getD s 0 0) 62 e)
 
 -- an item without a slash
-abbrev Alone : List ℕ → Option TimeItem
-Alone s = firstOf (itemFrom (some AllDay) (dayOf s)) (itemFrom (spanOf s) (some Every))
+module _ (s : List ℕ) {q : DayRead} (g : dayRead q ≡ dayOf s) where
+  pub day-alone : {d : Day} → q ≡ Is d → some (record { period = period 0 dayMinutes; day = d }) ≡ itemParts s none
+  unfolding orElse bind
+  day-alone e = rw (sym g ∙ ap dayRead e)
 
-module _ (s : List ℕ) (q : DayRead) (g : dayRead q ≡ dayOf s) where
-  pub day-alone : {d : Day} → q ≡ IsDay d → some (record { span = AllDay; day = d }) ≡ Alone s
-  day-alone k = rw (sym g ∙ ap dayRead k)
+  pub period-alone : {x : Option TimeItem} {o : Option Period} → q ≡ Malformed → o ≡ periodOf s → x ≡ itemFrom o (some Every) → x ≡ itemParts s none
+  unfolding orElse bind
+  period-alone e p y = y ∙ rw (p, sym g ∙ ap dayRead e)
 
-  module _ (k : q ≡ NoDay) (r : SpanRead) (e : spanRead r ≡ spanOf s) where
-    pub nothing-alone : r ≡ Malformed → none ≡ Alone s
-    nothing-alone f = rw (sym g ∙ ap dayRead k, sym e ∙ ap spanRead f)
-
-    pub span-alone : {x : Span} → r ≡ Is x → some (record { span = x; day = Every }) ≡ Alone s
-    span-alone f = rw (sym g ∙ ap dayRead k, sym e ∙ ap spanRead f)
-
-module _ (s : List ℕ) (r : Found) (f : r ≡ findByte 47 0 s) where
-  pub item-alone : {x : Option TimeItem} → r ≡ Nothing → x ≡ Alone s → x ≡ itemOf s
+-- an item by its slash
+module _ (s : List ℕ) (r : Found) (f : r ≡ findByte 47 0 s) {x : Option TimeItem} where
+  pub item-alone : r ≡ Nothing → x ≡ itemParts s none → x ≡ itemOf s
   unfolding itemOf
   item-alone e y = y ∙ sym (ap (itemParts s) (found-none 47 s r f e))
 
-  pub item-parts : {i : ℕ} {x : Option TimeItem} → r ≡ At i → x ≡ itemFrom (spanOf (take (i - 0) (drop 0 s))) (dayOf (take (length s - (i + 1)) (drop (i + 1) s))) → x ≡ itemOf s
+  pub item-parts : {i : ℕ} {p : Option Period} {d : Option Day} → r ≡ At i → p ≡ periodOf (take (i - 0) (drop 0 s)) → d ≡ dayOf (take (length s - (i + 1)) (drop (i + 1) s)) → x ≡ itemFrom p d → x ≡ itemOf s
   unfolding itemOf
-  item-parts e y = y ∙ sym (ap (itemParts s) (found-parts 47 s r f e))
+  item-parts e p q y = y ∙ rw (p, q) (sym (ap (itemParts s) (found-parts 47 s r f e)))
 
 -- which minutes match
 pub every-day : (day : Day) (d : ℕ) → day ≡ Every → true ≡ onDay day d
@@ -165,41 +115,21 @@ pub one-day : (day : Day) (d k : ℕ) → day ≡ Only k → eqb d k ≡ onDay d
 unfolding onDay
 one-day day d k e = rw e
 
-module _ (span : Span) (m : ℕ) where
-  pub between-before : {a b : ℕ} → span ≡ Between a b → m < a → false ≡ inSpan span m
-  unfolding inSpan
-  between-before {a} e h = rw (e, lt-leb a m h)
+module _ (p : Period) (m : ℕ) where
+  pub period-before : m < p .first → false ≡ inPeriod p m
+  unfolding inPeriod
+  period-before h = rw (lt-leb (p .first) m h)
 
-  pub between-from : {a b : ℕ} → span ≡ Between a b → a ≤ m → leb m b ≡ inSpan span m
-  unfolding inSpan
-  between-from {a} e h = rw (e, le-leb a m h)
-
-  pub in-before : {a : ℕ} → span ≡ Before a → ltb m a ≡ inSpan span m
-  unfolding inSpan
-  in-before e = rw e
-
-  pub in-after : {a : ℕ} → span ≡ After a → ltb a m ≡ inSpan span m
-  unfolding inSpan
-  in-after e = rw e
-
-  pub in-up-to : {a : ℕ} → span ≡ UpTo a → leb m a ≡ inSpan span m
-  unfolding inSpan
-  in-up-to e = rw e
-
-  pub in-since : {a : ℕ} → span ≡ Since a → leb a m ≡ inSpan span m
-  unfolding inSpan
-  in-since e = rw e
-
-  pub all-day : span ≡ AllDay → true ≡ inSpan span m
-  unfolding inSpan
-  all-day e = rw e
+  pub period-from : p .first ≤ m → ltb m (p .end) ≡ inPeriod p m
+  unfolding inPeriod
+  period-from h = rw (le-leb (p .first) m h)
 
 module _ (item : TimeItem) (minute : ℕ) where
-  pub off-day : onDay (item .day) (minute / 1440) ≡ false → false ≡ itemMatches item minute
+  pub off-day : onDay (item .day) (minute / dayMinutes) ≡ false → false ≡ itemMatches item minute
   unfolding itemMatches
   off-day t = rw t
 
-  pub on-day : onDay (item .day) (minute / 1440) ≡ true → inSpan (item .span) (minute % 1440) ≡ itemMatches item minute
+  pub on-day : onDay (item .day) (minute / dayMinutes) ≡ true → inPeriod (item .period) (minute % dayMinutes) ≡ itemMatches item minute
   unfolding itemMatches
   on-day t = rw t
 

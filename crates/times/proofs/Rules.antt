@@ -2,8 +2,8 @@
 use mathlib.Core.Path.{_≡_, refl, _∙_}
 use mathlib.Core.Bool.{Bool, true, false, not, cond, _&&_}
 use mathlib.Core.List.{List, [], _∷_, _++_}
-use mathlib.Core.Option.{Option, none, some}
-use Rattle.text.specs.Lists.{all, firstOf}
+use mathlib.Core.Option.{Option, none, some, orElse}
+use Rattle.text.specs.Lists.{all}
 use Rattle.text.proofs.Laws.{both-assoc}
 use Rattle.times.specs.declared.rule.TimeRule.{TimeRule}
 use Rattle.times.specs.Rule.{TimeMark, rightmost, decided, timesAccept, marked, unmarked, markedAll}
@@ -13,8 +13,8 @@ abbrev endsAs : TimeRule → Option TimeMark → List TimeMark → Bool
 endsAs rule (some x) xs = not (x .negated)
 endsAs rule none xs = cond (rule .matched) (rule .accepts) (rule .accepts && all (λ x. x .negated) xs)
 
-step : (rule : TimeRule) (x : TimeMark) (o : Option TimeMark) (xs : List TimeMark) → endsAs (marked rule x) o xs ≡ endsAs rule (firstOf o (cond (x .matches) (some x) none)) (x ∷ xs)
-unfolding marked all
+step : (rule : TimeRule) (x : TimeMark) (o : Option TimeMark) (xs : List TimeMark) → endsAs (marked rule x) o xs ≡ endsAs rule (orElse o (cond (x .matches) (some x) none)) (x ∷ xs)
+unfolding marked all orElse
 step rule x (some y) xs = refl
 step rule x none xs = go (x .matches) (rule .matched) refl
   where
@@ -24,7 +24,7 @@ step rule x none xs = go (x .matches) (rule .matched) refl
     go false false e = rw e (both-assoc (rule .accepts) (x .negated) (all (λ y. y .negated) xs))
 
 ends : (rule : TimeRule) (xs : List TimeMark) → markedAll rule xs .accepts ≡ endsAs rule (rightmost xs) xs
-unfolding markedAll rightmost all
+unfolding markedAll rightmost all orElse
 ends rule [] = go (rule .matched) (rule .accepts)
   where
     go : (m a : Bool) → a ≡ cond m a (a && true)

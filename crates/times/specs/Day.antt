@@ -6,12 +6,14 @@ use mathlib.Core.Option.{Option, none, some}
 use lib.Dec.{eqb, leb}
 use lib.ListN.{length}
 use Rattle.text.specs.Class.{within}
-use Rattle.text.specs.Bytes.{bytes}
+use Rattle.text.specs.Bytes.{byte, bytes}
 use Rattle.text.specs.Slice.{same}
-use Rattle.times.specs.declared.day.DayRead.{DayRead}
-use Rattle.times.specs.declared.day.DayRead.the-variants.{Is, Malformed}
-use Rattle.times.specs.declared.item.Day.{Day}
-use Rattle.times.specs.declared.item.Day.the-variants.{Every, Only}
+use Rattle.times.specs.declared.day.Day.{Day}
+use Rattle.times.specs.declared.day.Day.the-variants.{Every, Only}
+
+-- the fewest letters of a day's name
+abbrev pub fewestLetters : ℕ
+fewestLetters = 3
 
 -- the names, Monday first
 unfoldable pub dayNames : List (List ℕ)
@@ -27,7 +29,7 @@ dayNames =
 
 -- a capital letter as a small one, any other byte as it is
 unfoldable pub lowerOf : ℕ → ℕ
-lowerOf b = cond (within 65 90 b) (b + 32) b
+lowerOf b = cond (within (byte "A") (byte "Z") b) (b + 32) b
 
 -- the first, with letter case ignored, is a beginning of the second
 unfoldable pub shortens : List ℕ → List ℕ → Bool
@@ -45,9 +47,4 @@ dayAmong d (name ∷ names) s = cond (shortens s name) (some (Only d)) (dayAmong
 -- `*` is every day; a name has three letters or more
 unfoldable pub dayOf : List ℕ → Option Day
 unfolding same dayAmong dayNames
-dayOf s = cond (same s (bytes "*")) (some Every) (cond (leb 3 (length s)) (dayAmong 0 dayNames s) none)
-
--- the code's answer as the definition's
-abbrev pub dayRead : DayRead → Option Day
-dayRead (Is day) = some day
-dayRead Malformed = none
+dayOf s = cond (same s (bytes "*")) (some Every) (cond (leb fewestLetters (length s)) (dayAmong 0 dayNames s) none)

@@ -1,4 +1,5 @@
 pub mod Day
 pub mod Clock
 pub mod Item
+pub mod Contract
 pub mod Rule

@@ -2,9 +2,9 @@
 use Prim.Native.Nat.{ℕ}
 use mathlib.Core.Bool.{Bool, true, false, not, cond, _&&_}
 use mathlib.Core.List.{List, [], _∷_}
-use mathlib.Core.Option.{Option, none, some}
+use mathlib.Core.Option.{Option, none, some, orElse}
 use Rattle.times.specs.declared.rule.TimeRule.{TimeRule}
-use Rattle.text.specs.Lists.{all, firstOf}
+use Rattle.text.specs.Lists.{all}
 
 -- one item of an entry: whether its condition is negated, and whether it matches the minute asked for
 pub record TimeMark : Type 0 where
@@ -13,8 +13,9 @@ pub record TimeMark : Type 0 where
 
 -- the rightmost matching item, if one matches
 unfoldable pub rightmost : List TimeMark → Option TimeMark
+unfolding orElse
 rightmost [] = none
-rightmost (x ∷ xs) = firstOf (rightmost xs) (cond (x .matches) (some x) none)
+rightmost (x ∷ xs) = orElse (rightmost xs) (cond (x .matches) (some x) none)
 
 abbrev pub decided : Option TimeMark → List TimeMark → Bool
 decided none xs = all (λ x. x .negated) xs

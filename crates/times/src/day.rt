@@ -1,12 +1,23 @@
 // Day names, shortened to three letters or more, with letter case ignored.
-use super::item::Day;
+use text::slice::equal;
 ghost use Prim.Native.Nat.{_<_};
 ghost use mathlib.Core.Path.{_≡_};
 ghost use mathlib.Core.List.{[]};
 ghost use lib.ListN.{getD, length};
-ghost use Rattle.text.specs.Bytes.{bytes};
-ghost use Rattle.text.specs.Slice.{same};
-ghost use Rattle.times.specs.Day.{dayNames, lowerOf, shortens, dayOf, dayRead};
+ghost use Rattle.times.specs.Day.{dayNames, lowerOf, shortens, dayOf};
+ghost use Rattle.times.specs.Contract.{dayRead};
+
+// The days of an item.
+pub enum Day {
+    Every,
+    // The day's number; Monday is 0.
+    Only(u32),
+}
+
+impl Day {
+    // The fewest letters of a day's name.
+    pub const LETTERS: usize = 3;
+}
 
 pub enum DayRead {
     Is(Day),
@@ -27,6 +38,7 @@ fn name_byte(d: usize, i: usize) -> u8
     NAMES[d * 9 + i]
 }
 
+// The letters of the name of day d.
 fn name_length(d: usize) -> usize
     requires { ⌜ d < 7 ⌝ }
     ensures { λ r. ⌜ r ≡ length (getD dayNames d []) ⌝ }
@@ -34,13 +46,14 @@ fn name_length(d: usize) -> usize
     LENGTHS[d]
 }
 
+// A capital letter as a small one.
 fn lower(b: u8) -> u8
     ensures { λ r. ⌜ r ≡ lowerOf b ⌝ }
 {
-    if b < 65 {
+    if b < b'A' {
         return b;
     }
-    if b > 90 {
+    if b > b'Z' {
         return b;
     }
     b + 32
@@ -65,28 +78,19 @@ fn is_short_for(s: &[u8], d: usize) -> bool
     true
 }
 
-fn is_star(s: &[u8]) -> bool
-    ensures { λ r. ⌜ r ≡ same (now (s .entry)) (bytes "*") ⌝ }
-{
-    if s.len() != 1 {
-        return false;
-    }
-    s[0] == 42
-}
-
 pub fn read_day(s: &[u8]) -> DayRead
     ensures { λ r. ⌜ dayRead r ≡ dayOf (now (s .entry)) ⌝ }
 {
-    if is_star(s) {
+    if equal(s, b"*") {
         return DayRead::Is(Day::Every);
     }
-    if s.len() < 3 {
+    if s.len() < Day::LETTERS {
         return DayRead::Malformed;
     }
     let mut d: usize = 0;
     while d < 7 {
         if is_short_for(s, d) {
-            return DayRead::Is(Day::Only(d as u16));
+            return DayRead::Is(Day::Only(d as u32));
         }
         d += 1;
     }

@@ -1,6 +1,7 @@
-use mathlib.Core.Path.{sym, _∙_}
 use borrow.Author.Needs.{needs}
-use Rattle.options.proofs.ReadLaws.{argument-none, argument-bad, argument-good, argument-large}
+use Rattle.pattern.specs.declared.Syntax.the-variants.{Plain}
+use Rattle.pattern.proofs.WholeLaws.{told-fault, told-number}
+use Rattle.options.proofs.ReadLaws.{argument-none, argument-fault, argument-good}
 use Rattle.options.proofs.read.read_argument.Statement.{statement}
 use Rattle.options.proofs.read.read_argument.Tie as tie
 
@@ -13,29 +14,23 @@ enum-told c = search needs
 enum-known-m : tie.Need-enum-known-m
 enum-known-m c = search needs
 
-read-pattern-requires : tie.Need-read-pattern-requires
-read-pattern-requires c κs = search needs
+read-expansions-requires : tie.Need-read-expansions-requires
+read-expansions-requires c κs = search needs
+
+enum-known-cause : tie.Need-enum-known-cause
+enum-known-cause c = search needs
 
 enum-told-2 : tie.Need-enum-told-2
 enum-told-2 c = search needs
 
-enum-known-size : tie.Need-enum-known-size
-enum-known-size c = search needs
-
-fits-requires : tie.Need-fits-requires
-fits-requires c κs = search needs
-
 returns : tie.Need-returns
-returns c = let a = c .before .before .before .before .before .before .before .before .before .before .before .before .args in argument-good (a .v .now) (a .positions .now) _ (c .before .before .before .before .before .before .before .before .before .number-range .ensures) (c .before .before .before .before .before .before .before .m .given .1) _ (sym (c .before .before .before .before .before .read-pattern .ensures) ∙ c .before .before .before .size .given .1) (sym (c .before .fits2 .ensures) ∙ c .if1 .taken)
+returns c = let a = c .before .before .before .before .before .args in argument-none (a .v .now) (a .positions .now) _ (c .before .before .number-range .ensures) (c .enum-told .given .1)
 
 returns-2 : tie.Need-returns-2
-returns-2 c = let a = c .before .before .before .before .before .args in argument-none (a .v .now) (a .positions .now) _ (c .before .before .number-range .ensures) (c .enum-told .given .1)
+returns-2 c = let a = c .before .before .before .before .before .before .before .before .before .before .args in argument-fault (a .v .now) (a .positions .now) _ (c .before .before .before .before .before .before .before .number-range .ensures) (c .before .before .before .before .before .m .given .1) (told-fault Plain (a .v .now) _ (rw (c .before .cause .given .1) at (c .before .before .before .read-expansions .ensures)))
 
 returns-3 : tie.Need-returns-3
-returns-3 c = let a = c .before .before .before .before .before .before .before .before .before .args in argument-bad (a .v .now) (a .positions .now) _ (c .before .before .before .before .before .before .number-range .ensures) (c .before .before .before .before .m .given .1) (sym (c .before .before .read-pattern .ensures) ∙ c .enum-told2 .given .1)
-
-returns-4 : tie.Need-returns-4
-returns-4 c = let a = c .before .before .before .before .before .before .before .before .before .before .before .before .args in argument-large (a .v .now) (a .positions .now) _ (c .before .before .before .before .before .before .before .before .before .number-range .ensures) (c .before .before .before .before .before .before .before .m .given .1) _ (sym (c .before .before .before .before .before .read-pattern .ensures) ∙ c .before .before .before .size .given .1) (sym (c .before .fits2 .ensures) ∙ c .if1 .left)
+returns-3 c = let a = c .before .before .before .before .before .before .before .before .before .args in argument-good (a .v .now) (a .positions .now) _ (c .before .before .before .before .before .before .number-range .ensures) (c .before .before .before .before .m .given .1) (told-number Plain (a .v .now) _ (rw (c .enum-told2 .given .1) at (c .before .before .read-expansions .ensures)) .1)
 
 pub read-argument-spec : {M : Type 1} → statement M
 read-argument-spec =
@@ -44,11 +39,9 @@ read-argument-spec =
     number-range-requires
     enum-told
     enum-known-m
-    read-pattern-requires
+    read-expansions-requires
+    enum-known-cause
     enum-told-2
-    enum-known-size
-    fits-requires
     returns
     returns-2
-    returns-3
-    returns-4)
+    returns-3)

@@ -11,17 +11,17 @@ returns c = command-none _ (c .if1 .taken)
 returns-2 : tie.Need-returns-2
 returns-2 c = command-long _ (c .if2 .taken)
 
-all-command-bytes-requires : tie.Need-all-command-bytes-requires
-all-command-bytes-requires c κs = search needs
+all-in-requires : tie.Need-all-in-requires
+all-in-requires c κs = search needs
 
 returns-3 : tie.Need-returns-3
-returns-3 c = command-bytes _ (c .before .before .before .if1 .left) (c .before .before .if2 .left) (sym (c .before .all-command-bytes .ensures) ∙ not-true _ (c .if3 .taken))
+returns-3 c = command-bytes _ (c .before .before .before .if1 .left) (c .before .before .if2 .left) (sym (c .before .all-in .ensures) ∙ not-true _ (c .if3 .taken))
 
 components-are-good-requires : tie.Need-components-are-good-requires
 components-are-good-requires c κs = search needs
 
 returns-4 : tie.Need-returns-4
-returns-4 c = c .components-are-good .ensures ∙ command-rest _ (c .before .before .before .before .if1 .left) (c .before .before .before .if2 .left) (sym (c .before .before .all-command-bytes .ensures) ∙ not-false _ (c .before .if3 .left))
+returns-4 c = c .components-are-good .ensures ∙ command-rest _ (c .before .before .before .before .if1 .left) (c .before .before .before .if2 .left) (sym (c .before .before .all-in .ensures) ∙ not-false _ (c .before .if3 .left))
 
 pub command-is-good-spec : {M : Type 1} → statement M
 command-is-good-spec =
@@ -29,7 +29,7 @@ command-is-good-spec =
     (tie.spec
     returns
     returns-2
-    all-command-bytes-requires
+    all-in-requires
     returns-3
     components-are-good-requires
     returns-4)

@@ -10,11 +10,11 @@ returns c = name-none _ _ (c .if1 .taken)
 returns-2 : tie.Need-returns-2
 returns-2 c = name-long _ _ (c .if2 .taken)
 
-all-name-bytes-requires : tie.Need-all-name-bytes-requires
-all-name-bytes-requires c κs = search needs
+all-in-requires : tie.Need-all-in-requires
+all-in-requires c κs = search needs
 
 returns-3 : tie.Need-returns-3
-returns-3 c = c .all-name-bytes .ensures ∙ name-rest _ _ (c .before .before .if1 .left) (c .before .if2 .left)
+returns-3 c = c .all-in .ensures ∙ name-rest _ _ (c .before .before .if1 .left) (c .before .if2 .left)
 
 pub name-is-good-spec : {M : Type 1} → statement M
-name-is-good-spec = tie.close (tie.spec returns returns-2 all-name-bytes-requires returns-3)
+name-is-good-spec = tie.close (tie.spec returns returns-2 all-in-requires returns-3)

@@ -5,13 +5,13 @@ use borrow.Author.Needs.{needs}
 use borrow.Author.Tests.{not-true, not-false}
 use lib.Dec.{lit<}
 use lib.ListN.{length, drop}
-use Rattle.text.specs.Number.{digits, numberOf}
+use Rattle.text.specs.Number.{digits, numberFrom, numberOf}
 use Rattle.text.proofs.Numbers.{digit-range, digits-on, digits-off, digits-end, number-in, number-none, number-long, grow, small}
 use Rattle.text.proofs.number.decimal.Statement.{statement}
 use Rattle.text.proofs.number.decimal.Tie as tie
 
 abbrev Inv-loop : tie.InvT-loop
-Inv-loop s v₀ i₀ v i = (i ≤ length s) × (v < 10 ^ i) × (digits v (drop i s) ≡ numberOf s)
+Inv-loop s v₀ i₀ v i = (i ≤ length s) × (v < 10 ^ i) × (numberFrom (digits v (drop i s)) ≡ numberOf s)
 
 abbrev μ-loop : tie.MeasureT-loop
 μ-loop s v₀ i₀ v i = length s - i

@@ -16,13 +16,13 @@ enum-told : tie.Need-enum-told
 enum-told c = search needs
 
 returns-2 : tie.Need-returns-2
-returns-2 c = minute-none _ _ (c .before .before .before .if1 .left) (c .before .before .decimal .ensures) (c .enum-told .given .1)
+returns-2 c = minute-none _ (c .before .before .before .if1 .left) (c .before .before .decimal .ensures) (c .enum-told .given .1)
 
 returns-3 : tie.Need-returns-3
-returns-3 c = minute-late _ _ (c .before .before .before .before .before .if1 .left) (c .before .before .before .before .decimal .ensures) (c .before .before .m .given .1) (c .if2 .taken)
+returns-3 c = minute-late _ (c .before .before .before .before .before .if1 .left) (c .before .before .before .before .decimal .ensures) (c .before .before .m .given .1) (c .if2 .taken)
 
 returns-4 : tie.Need-returns-4
-returns-4 c = minute-in _ _ (c .before .before .before .before .before .if1 .left) (c .before .before .before .before .decimal .ensures) (c .before .before .m .given .1) (c .if2 .left)
+returns-4 c = minute-in _ (c .before .before .before .before .before .if1 .left) (c .before .before .before .before .decimal .ensures) (c .before .before .m .given .1) (c .if2 .left)
 
 pub read-minute-spec : {M : Type 1} → statement M
 read-minute-spec =

@@ -3,8 +3,8 @@ use Prim.Native.Nat.{_-_}
 use native.Mathlib.Omega.{arith}
 use borrow.Author.Needs.{needs}
 use lib.ListN.{drop}
-use Rattle.times.proofs.Days.{day-star, day-short, day-long, day-hit, day-on, day-end}
 use Rattle.times.specs.Day.{dayNames, dayAmong, dayOf}
+use Rattle.times.proofs.Days.{day-star, day-short, day-long, day-hit, day-on, day-end}
 use Rattle.times.proofs.day.read_day.Statement.{statement}
 use Rattle.times.proofs.day.read_day.Tie as tie
 
@@ -14,23 +14,26 @@ Inv-loop s d₀ d = dayAmong d (drop d dayNames) s ≡ dayOf s
 abbrev μ-loop : tie.MeasureT-loop
 μ-loop s d₀ d = 7 - d
 
-is-star-requires : tie.Need-is-star-requires Inv-loop μ-loop
-is-star-requires c κs = search needs
+slice-aggregate-equal : tie.Need-slice-aggregate-equal Inv-loop μ-loop
+slice-aggregate-equal c = search needs
+
+equal-requires : tie.Need-equal-requires Inv-loop μ-loop
+equal-requires c κs = search needs
 
 returns : tie.Need-returns Inv-loop μ-loop
-returns c = day-star _ (sym (c .before .is-star .ensures) ∙ c .if1 .taken)
+returns c = day-star _ (sym (c .before .equal .ensures) ∙ c .if1 .taken)
 
 returns-2 : tie.Need-returns-2 Inv-loop μ-loop
-returns-2 c = day-short _ (sym (c .before .before .is-star .ensures) ∙ c .before .if1 .left) (c .if2 .taken)
+returns-2 c = day-short _ (sym (c .before .before .equal .ensures) ∙ c .before .if1 .left) (c .if2 .taken)
 
 loop-holds : tie.Need-loop-holds Inv-loop μ-loop
-loop-holds c = day-long _ (sym (c .before .before .is-star .ensures) ∙ c .before .if1 .left) (c .if2 .left)
+loop-holds c = day-long _ (sym (c .before .before .equal .ensures) ∙ c .before .if1 .left) (c .if2 .left)
 
 is-short-for-requires : tie.Need-is-short-for-requires Inv-loop μ-loop
 is-short-for-requires c κs = omega arith
 
-cast-t9 : tie.Need-cast-t9 Inv-loop μ-loop
-cast-t9 c = omega arith
+cast-t12 : tie.Need-cast-t12 Inv-loop μ-loop
+cast-t12 c = omega arith
 
 returns-3 : tie.Need-returns-3 Inv-loop μ-loop
 returns-3 c = day-hit _ _ (c .before .before .loop-test .taken) (sym (c .before .is-short-for .ensures) ∙ c .if3 .taken) ∙ c .before .before .before .loop .inv
@@ -53,12 +56,13 @@ read-day-spec =
     (tie.spec
     Inv-loop
     μ-loop
-    is-star-requires
+    slice-aggregate-equal
+    equal-requires
     returns
     returns-2
     loop-holds
     is-short-for-requires
-    cast-t9
+    cast-t12
     returns-3
     add-d
     loop-less

@@ -1,5 +1,5 @@
 use borrow.Author.Needs.{needs}
-use Rattle.times.proofs.Items.{day-alone, nothing-alone, span-alone}
+use Rattle.times.proofs.Items.{day-alone, period-alone}
 use Rattle.times.proofs.item.read_alone.Statement.{statement}
 use Rattle.times.proofs.item.read_alone.Tie as tie
 
@@ -10,25 +10,19 @@ enum-known-d : tie.Need-enum-known-d
 enum-known-d c = search needs
 
 returns : tie.Need-returns
-returns c = day-alone _ _ (c .before .before .before .read-day .ensures) (c .before .d .given .1)
+returns c = day-alone _ (c .before .before .before .read-day .ensures) (c .before .d .given .1)
 
 enum-told : tie.Need-enum-told
 enum-told c = search needs
 
-read-span-requires : tie.Need-read-span-requires
-read-span-requires c κs = search needs
+read-period-requires : tie.Need-read-period-requires
+read-period-requires c κs = search needs
 
-enum-known-x : tie.Need-enum-known-x
-enum-known-x c = search needs
-
-enum-told-2 : tie.Need-enum-told-2
-enum-told-2 c = search needs
+item-from-requires : tie.Need-item-from-requires
+item-from-requires c κs = search needs
 
 returns-2 : tie.Need-returns-2
-returns-2 c = nothing-alone _ _ (c .before .before .before .before .before .read-day .ensures) (c .before .before .before .enum-told .given .1) _ (c .before .before .read-span .ensures) (c .enum-told2 .given .1)
-
-returns-3 : tie.Need-returns-3
-returns-3 c = span-alone _ _ (c .before .before .before .before .before .before .read-day .ensures) (c .before .before .before .before .enum-told .given .1) _ (c .before .before .before .read-span .ensures) (c .before .x .given .1)
+returns-2 c = period-alone _ (c .before .before .before .before .read-day .ensures) (c .before .before .enum-told .given .1) (c .before .read-period .ensures) (c .item-from .ensures)
 
 pub read-alone-spec : {M : Type 1} → statement M
 read-alone-spec =
@@ -38,8 +32,6 @@ read-alone-spec =
     enum-known-d
     returns
     enum-told
-    read-span-requires
-    enum-known-x
-    enum-told-2
-    returns-2
-    returns-3)
+    read-period-requires
+    item-from-requires
+    returns-2)

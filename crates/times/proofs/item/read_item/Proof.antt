@@ -1,7 +1,7 @@
 use native.Mathlib.Omega.{arith}
 use borrow.Author.Needs.{needs}
 use Rattle.times.proofs.Items.{item-alone, item-parts}
-use Rattle.times.proofs.Parted.{found-within}
+use Rattle.text.proofs.Leads.{found-within}
 use Rattle.times.proofs.item.read_item.Statement.{statement}
 use Rattle.times.proofs.item.read_item.Tie as tie
 
@@ -23,29 +23,35 @@ returns c = item-alone (c .before .before .before .before .before .args .s .now)
 add-after : tie.Need-add-after
 add-after c = let h = found-within 47 (c .before .before .before .before .before .args .s .now) _ (c .before .before .before .find-byte .ensures) (c .before .slash .given .1) in omega (arith, h)
 
-sub-read-both : tie.Need-sub-read-both
-sub-read-both c = search needs
+sub-read-period : tie.Need-sub-read-period
+sub-read-period c = search needs
 
-part-read-both-start : tie.Need-part-read-both-start
-part-read-both-start c = search needs
+part-read-period-start : tie.Need-part-read-period-start
+part-read-period-start c = search needs
 
-part-read-both-end : tie.Need-part-read-both-end
-part-read-both-end c = let h = found-within 47 (c .before .before .before .before .before .args .s .now) _ (c .before .before .before .find-byte .ensures) (c .before .slash .given .1) in omega (arith, h)
+part-read-period-end : tie.Need-part-read-period-end
+part-read-period-end c = let h = found-within 47 (c .before .before .before .before .before .args .s .now) _ (c .before .before .before .find-byte .ensures) (c .before .slash .given .1) in omega (arith, h)
 
-sub-read-both-2 : tie.Need-sub-read-both-2
-sub-read-both-2 c = let h = found-within 47 (c .before .before .before .before .before .before .args .s .now) _ (c .before .before .before .before .find-byte .ensures) (c .before .before .slash .given .1) in omega (arith, h)
+read-period-requires : tie.Need-read-period-requires
+read-period-requires c κs = search needs
 
-part-read-both-start-2 : tie.Need-part-read-both-start-2
-part-read-both-start-2 c = let h = found-within 47 (c .before .before .before .before .before .before .args .s .now) _ (c .before .before .before .before .find-byte .ensures) (c .before .before .slash .given .1) in omega (arith, h)
+sub-read-day : tie.Need-sub-read-day
+sub-read-day c = let h = found-within 47 (c .before .before .before .before .before .before .before .args .s .now) _ (c .before .before .before .before .before .find-byte .ensures) (c .before .before .before .slash .given .1) in omega (arith, h)
 
-part-read-both-end-2 : tie.Need-part-read-both-end-2
-part-read-both-end-2 c = search needs
+part-read-day-start : tie.Need-part-read-day-start
+part-read-day-start c = let h = found-within 47 (c .before .before .before .before .before .before .before .args .s .now) _ (c .before .before .before .before .before .find-byte .ensures) (c .before .before .before .slash .given .1) in omega (arith, h)
 
-read-both-requires : tie.Need-read-both-requires
-read-both-requires c κs = search needs
+part-read-day-end : tie.Need-part-read-day-end
+part-read-day-end c = search needs
+
+read-day-requires : tie.Need-read-day-requires
+read-day-requires c κs = search needs
+
+item-from-requires : tie.Need-item-from-requires
+item-from-requires c κs = search needs
 
 returns-2 : tie.Need-returns-2
-returns-2 c = item-parts (c .before .before .before .before .before .before .before .before .args .s .now) _ (c .before .before .before .before .before .before .find-byte .ensures) (c .before .before .before .before .slash .given .1) (c .read-both .ensures)
+returns-2 c = item-parts (c .before .before .before .before .before .before .before .before .before .before .args .s .now) _ (c .before .before .before .before .before .before .before .before .find-byte .ensures) (c .before .before .before .before .before .before .slash .given .1) (c .before .before .before .read-period .ensures) (c .before .read-day .ensures) (c .item-from .ensures)
 
 pub read-item-spec : {M : Type 1} → statement M
 read-item-spec =
@@ -57,11 +63,13 @@ read-item-spec =
     read-alone-requires
     returns
     add-after
-    sub-read-both
-    part-read-both-start
-    part-read-both-end
-    sub-read-both-2
-    part-read-both-start-2
-    part-read-both-end-2
-    read-both-requires
+    sub-read-period
+    part-read-period-start
+    part-read-period-end
+    read-period-requires
+    sub-read-day
+    part-read-day-start
+    part-read-day-end
+    read-day-requires
+    item-from-requires
     returns-2)

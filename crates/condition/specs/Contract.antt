@@ -1,0 +1,111 @@
+-- What the code keeps of the alternatives so far, and what its answers say.
+use Prim.Native.Nat.{ℕ}
+use mathlib.Core.Bool.{Bool, true, false, not, cond, _&&_}
+use mathlib.Core.List.{List, [], _∷_}
+use mathlib.Core.Option.{Option, none, some, Option·map}
+use lib.ListN.{drop}
+use Rattle.text.specs.Lists.{any}
+use Rattle.fault.specs.Fault.{Reading, fault, value}
+use Rattle.fault.specs.declared.Cause.{Cause}
+use Rattle.question.specs.Strings.{stringsIn}
+use Rattle.glob.specs.Match.{matches}
+use Rattle.glob.specs.Alternative.{Alternative}
+use Rattle.condition.specs.declared.rightmost.Rightmost.{Rightmost}
+use Rattle.condition.specs.declared.prefix.Asks.{Asks}
+use Rattle.condition.specs.declared.prefix.Asks.the-variants.{User, Group, Time}
+use Rattle.condition.specs.declared.prefix.Prefix.{Prefix}
+use Rattle.condition.specs.declared.condition.Added.{Added}
+use Rattle.condition.specs.declared.condition.Added.the-variants.{Fault as AddedFault, Kept}
+use Rattle.condition.specs.declared.condition.ConditionRead.{ConditionRead}
+use Rattle.condition.specs.declared.condition.ConditionRead.the-variants.{Fault, Users, Times}
+use Rattle.condition.specs.declared.judge.Judgement.{Judgement}
+use Rattle.condition.specs.declared.judge.Judgement.the-variants.{Malformed, Applies, Misses}
+use Rattle.condition.specs.Rightmost.{Judged}
+use Rattle.condition.specs.Users.{onHost}
+use Rattle.condition.specs.Condition.{Sort, user, group, time, Prefixed, behindPrefix, Judge, judgeOf, Condition}
+
+-- no alternative so far
+abbrev pub noneKept : Rightmost
+noneKept = record { applied = false; accepts = false; negated = true; some = false }
+
+-- with one alternative more
+unfoldable pub added : Rightmost → Judged → Rightmost
+added r x = record {
+  applied = cond (x .applies) true (r .applied);
+  accepts = cond (x .applies) (not (x .negated)) (r .accepts);
+  negated = r .negated && x .negated;
+  some = true;
+}
+
+-- with all of these
+unfoldable pub addedAll : Rightmost → List Judged → Rightmost
+unfolding added
+addedAll r [] = r
+addedAll r (x ∷ xs) = addedAll (added r x) xs
+
+-- what the rightmost that applied says, or else the default
+abbrev pub saysOr : Rightmost → Bool → Bool
+saysOr r d = cond (r .applied) (r .accepts) d
+
+-- what the code's words stand for
+abbrev pub sortIn : Asks → Sort
+sortIn User = user
+sortIn Group = group
+sortIn Time = time
+
+abbrev pub prefixedIn : List ℕ → Prefix → Prefixed
+prefixedIn t p = behindPrefix (sortIn (p .asks)) (p .written) (drop (p .at) t)
+
+-- what is found of an alternative with a good form
+abbrev pub judgementIn : Bool → Judgement
+judgementIn true = Applies
+judgementIn false = Misses
+
+-- what is found of any alternative
+unfoldable pub judgementOf : Option Bool → Judgement
+judgementOf none = Malformed
+judgementOf (some b) = judgementIn b
+
+-- a judge who finds the same alternatives malformed, and lets none apply unless something is to be judged
+abbrev pub judgeIf : Bool → Judge → Judge
+judgeIf judging judge s e = Option·map (λ b. judging && b) (judge s e)
+
+-- the judge of a question, with the groups as zero-ended strings
+unfoldable pub judgeBy : Bool → (user groups host : List ℕ) (minute : ℕ) → Judge
+judgeBy judging u gs h m = judgeIf judging (judgeOf u (stringsIn gs) h m)
+
+-- the user, or some group, matches
+unfoldable pub nameApplies : Bool → Sort → (user : List ℕ) (groups : List (List ℕ)) (pattern : List ℕ) → Bool
+nameApplies judging user u gs p = judging && matches p u
+nameApplies judging group u gs p = judging && any (matches p) gs
+nameApplies judging time u gs p = false
+
+-- the name and the host
+unfoldable pub appliesBy : Bool → Sort → (user : List ℕ) (groups : List (List ℕ)) (host : List ℕ) → Alternative → Bool
+unfolding nameApplies
+appliesBy judging s u gs h a = nameApplies judging s u gs (a .name) && onHost h (a .host)
+
+-- what is kept with the alternatives of a reading, or its fault
+unfoldable pub addedBy : Rightmost → Reading Cause (List Judged) → Added
+addedBy r (fault c) = AddedFault c
+addedBy r (value xs) = Kept (addedAll r xs)
+
+-- users and groups are kept together, times apart
+abbrev pub keptFor : Sort → (users times : Rightmost) → Rightmost
+keptFor user us ts = us
+keptFor group us ts = us
+keptFor time us ts = ts
+
+abbrev pub readFor : Sort → Rightmost → ConditionRead
+readFor user r = Users r
+readFor group r = Users r
+readFor time r = Times r
+
+abbrev pub readAdded : Sort → Added → ConditionRead
+readAdded s (AddedFault c) = Fault c
+readAdded s (Kept r) = readFor s r
+
+-- what a condition comes to: its fault, or what is kept of its sort with its alternatives
+unfoldable pub conditionRead : (users times : Rightmost) → Reading Cause Condition → ConditionRead
+conditionRead us ts (fault c) = Fault c
+conditionRead us ts (value c) = readFor (c .sort) (addedAll (keptFor (c .sort) us ts) (c .alternatives))

@@ -1,0 +1,5 @@
+pub mod Rightmost
+pub mod Users
+pub mod Times
+pub mod Condition
+pub mod Contract

@@ -1,0 +1,310 @@
+// One condition from a field's text: its alternatives are taken one by one into what is kept of the rightmost rule.
+use super::judge::Judgement;
+use super::judge::judge;
+use super::prefix::Asks;
+use super::prefix::prefix_of;
+use super::rightmost::Rightmost;
+use fault::Cause;
+use pattern::Syntax;
+use pattern::Pattern;
+use pattern::Shape;
+use pattern::expand::expansion;
+use pattern::reader::read_pattern;
+use question::WeekMinute;
+use text::buffer::Filled;
+use text::slice::Found;
+use text::slice::find_byte;
+ghost use Prim.Native.Nat.{_≤_};
+ghost use mathlib.Core.Path.{_≡_};
+ghost use mathlib.Core.Bool.{not, _&&_, _||_};
+ghost use mathlib.Core.List.{[], _∷_};
+ghost use lib.Dec.{eqb, leb};
+ghost use lib.ListN.{length};
+ghost use Rattle.text.specs.Bytes.{byte};
+ghost use Rattle.text.specs.Lists.{has};
+ghost use Rattle.text.specs.Slice.{headIs};
+ghost use Rattle.fault.specs.Fault.{readAll, require};
+ghost use Rattle.pattern.specs.Whole.{expansionsOf};
+ghost use Rattle.question.specs.Strings.{stringsIn};
+ghost use Rattle.condition.specs.Condition.{judgeOf, kindFor, causeFor, alternativeRead, alternativesOf, conditionBehind, conditionOf};
+ghost use Rattle.condition.specs.Contract.{sortIn, judgeIf, judgeBy, addedBy, keptFor, readAdded, conditionRead};
+
+// What a field's text comes to: a fault, or what is kept of its sort with its alternatives.
+pub enum ConditionRead {
+    Fault(Cause),
+    Users(Rightmost),
+    Times(Rightmost),
+}
+
+// What is kept with some alternatives more, or the fault of the first that has one.
+enum Added {
+    Fault(Cause),
+    Kept(Rightmost),
+}
+
+fn head_is(s: &[u8], c: u8) -> bool
+    ensures { λ r. ⌜ r ≡ headIs c (now (s .entry)) ⌝ }
+{
+    if s.len() == 0 {
+        return false;
+    }
+    s[0] == c
+}
+
+// Whether a text without a prefix has no `=`.
+fn can_be_condition(written: bool, text: &[u8]) -> bool
+    ensures { λ r. ⌜ r ≡ written || not (has (byte "=") (now (text .entry))) ⌝ }
+{
+    if written {
+        return true;
+    }
+    match find_byte(text, b'=') {
+        Found::At(_) => false,
+        Found::Nothing => true,
+    }
+}
+
+fn kind_for(asks: Asks) -> Syntax
+    ensures { λ r. ⌜ r ≡ kindFor (sortIn asks) ⌝ }
+{
+    match asks {
+        Asks::User => Syntax::Condition,
+        Asks::Group => Syntax::Condition,
+        Asks::Time => Syntax::Time,
+    }
+}
+
+fn cause_for(asks: Asks) -> Cause
+    ensures { λ r. ⌜ r ≡ causeFor (sortIn asks) ⌝ }
+{
+    match asks {
+        Asks::User => Cause::Alternative,
+        Asks::Group => Cause::Alternative,
+        Asks::Time => Cause::TimeItem,
+    }
+}
+
+fn is_single(size: Pattern) -> bool
+    ensures { λ r. ⌜ r ≡ eqb (size .depth) 0 && eqb (size .number) 1 ⌝ }
+{
+    if size.depth == 0 {
+        return size.number == 1;
+    }
+    false
+}
+
+// One alternative more.
+fn add_one(
+    asks: Asks,
+    negated: bool,
+    judging: bool,
+    e: &[u8],
+    user: &[u8],
+    groups: &[u8],
+    host: &[u8],
+    minute: WeekMinute,
+    kept: Rightmost,
+) -> Added
+    ensures { λ r. ⌜ r ≡ addedBy kept (readAll (alternativeRead (judgeBy judging (now (user .entry)) (now (groups .entry)) (now (host .entry)) (minute .0)) negated (sortIn asks)) (now (e .entry) ∷ [])) ⌝ }
+{
+    match judge(asks, judging, e, user, groups, host, minute) {
+        Judgement::Malformed => Added::Fault(cause_for(asks)),
+        Judgement::Applies => Added::Kept(kept.add(negated, true)),
+        Judgement::Misses => Added::Kept(kept.add(negated, false)),
+    }
+}
+
+// All expansions of a pattern that has so many.
+fn add_all(
+    kind: Kind,
+    asks: Asks,
+    negated: bool,
+    judging: bool,
+    p: &[u8],
+    number: usize,
+    user: &[u8],
+    groups: &[u8],
+    host: &[u8],
+    minute: WeekMinute,
+    kept: Rightmost,
+) -> Added
+    requires { ⌜ (length (now p) ≤ 1024) × (number ≡ length (expansionsOf kind (now p))) ⌝ }
+    ensures { λ r. ⌜ r ≡ addedBy kept (readAll (alternativeRead (judgeBy judging (now (user .entry)) (now (groups .entry)) (now (host .entry)) (minute .0)) negated (sortIn asks)) (expansionsOf kind (now (p .entry)))) ⌝ }
+{
+    let mut out = [0u8; Pattern::BYTES];
+    let mut r = kept;
+    let mut k = 0;
+    while k < number {
+        match expansion(kind, p, k, &mut out) {
+            Filled::Done(n) => {
+                match add_one(
+                    asks,
+                    negated,
+                    judging,
+                    &out[..n],
+                    user,
+                    groups,
+                    host,
+                    minute,
+                    r,
+                ) {
+                    Added::Kept(next) => {
+                        r = next;
+                        k += 1;
+                    }
+                    Added::Fault(cause) => {
+                        return Added::Fault(cause);
+                    }
+                }
+            }
+            Filled::Full => {
+                return Added::Fault(Cause::FieldLength);
+            }
+        }
+    }
+    Added::Kept(r)
+}
+
+// The alternatives of a pattern: well formed, then depth and number, then each in order.
+fn add_alternatives(
+    asks: Asks,
+    negated: bool,
+    judging: bool,
+    p: &[u8],
+    user: &[u8],
+    groups: &[u8],
+    host: &[u8],
+    minute: WeekMinute,
+    kept: Rightmost,
+) -> Added
+    requires { ⌜ length (now p) ≤ 1024 ⌝ }
+    ensures { λ r. ⌜ r ≡ addedBy kept (alternativesOf (judgeBy judging (now (user .entry)) (now (groups .entry)) (now (host .entry)) (minute .0)) negated (sortIn asks) (now (p .entry))) ⌝ }
+{
+    let kind = kind_for(asks);
+    match read_pattern(kind, p) {
+        Shape::Malformed => Added::Fault(Cause::Pattern),
+        Shape::Read(size) => {
+            if !size.fits() {
+                return Added::Fault(Cause::PatternSize);
+            }
+            if is_single(size) {
+                return add_one(asks, negated, judging, p, user, groups, host, minute, kept);
+            }
+            add_all(
+                kind,
+                asks,
+                negated,
+                judging,
+                p,
+                size.number,
+                user,
+                groups,
+                host,
+                minute,
+                kept,
+            )
+        }
+    }
+}
+
+fn kept_for(asks: Asks, users: Rightmost, times: Rightmost) -> Rightmost
+    ensures { λ r. ⌜ r ≡ keptFor (sortIn asks) users times ⌝ }
+{
+    match asks {
+        Asks::User => users,
+        Asks::Group => users,
+        Asks::Time => times,
+    }
+}
+
+fn told(asks: Asks, added: Added) -> ConditionRead
+    ensures { λ r. ⌜ r ≡ readAdded (sortIn asks) added ⌝ }
+{
+    match added {
+        Added::Fault(cause) => ConditionRead::Fault(cause),
+        Added::Kept(kept) => match asks {
+            Asks::User => ConditionRead::Users(kept),
+            Asks::Group => ConditionRead::Users(kept),
+            Asks::Time => ConditionRead::Times(kept),
+        },
+    }
+}
+
+// A condition behind its `!`.
+fn read_behind(
+    negated: bool,
+    text: &[u8],
+    judging: bool,
+    user: &[u8],
+    groups: &[u8],
+    host: &[u8],
+    minute: WeekMinute,
+    users: Rightmost,
+    times: Rightmost,
+) -> ConditionRead
+    requires { ⌜ length (now text) ≤ 1024 ⌝ }
+    ensures { λ r. ⌜ r ≡ conditionRead users times (conditionBehind (judgeBy judging (now (user .entry)) (now (groups .entry)) (now (host .entry)) (minute .0)) negated (now (text .entry))) ⌝ }
+{
+    let prefix = prefix_of(text);
+    if !can_be_condition(prefix.written, text) {
+        return ConditionRead::Fault(Cause::OptionName);
+    }
+    let asks = prefix.asks;
+    let at = prefix.at;
+    told(
+        asks,
+        add_alternatives(
+            asks,
+            negated,
+            judging,
+            &text[at..],
+            user,
+            groups,
+            host,
+            minute,
+            kept_for(asks, users, times),
+        ),
+    )
+}
+
+// One condition, judged or only looked at.
+pub fn read_condition(
+    text: &[u8],
+    judging: bool,
+    user: &[u8],
+    groups: &[u8],
+    host: &[u8],
+    minute: WeekMinute,
+    users: Rightmost,
+    times: Rightmost,
+) -> ConditionRead
+    ensures { λ r. ⌜ r ≡ conditionRead users times (require (leb (length (now (text .entry))) 1024) Cause.FieldLength (conditionOf (judgeIf judging (judgeOf (now (user .entry)) (stringsIn (now (groups .entry))) (now (host .entry)) (minute .0))) (now (text .entry)))) ⌝ }
+{
+    if text.len() > Pattern::BYTES {
+        return ConditionRead::Fault(Cause::FieldLength);
+    }
+    if head_is(text, b'!') {
+        return read_behind(
+            true,
+            &text[1..],
+            judging,
+            user,
+            groups,
+            host,
+            minute,
+            users,
+            times,
+        );
+    }
+    read_behind(
+        false,
+        text,
+        judging,
+        user,
+        groups,
+        host,
+        minute,
+        users,
+        times,
+    )
+}

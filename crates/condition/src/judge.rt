@@ -1,0 +1,120 @@
+// One alternative of a condition: whether it has a good form, and whether it applies.
+use super::prefix::Asks;
+use glob::alternative::Parted;
+use glob::alternative::part;
+use glob::matcher::matches_expansion;
+use question::WeekMinute;
+use question::strings::string_end;
+use times::item::ItemAnswer;
+use times::item::item_answer;
+ghost use mathlib.Core.Path.{_≡_};
+ghost use mathlib.Core.Bool.{_&&_};
+ghost use mathlib.Core.Option.{Option·map};
+ghost use Rattle.text.specs.Lists.{any};
+ghost use Rattle.question.specs.Strings.{stringsIn};
+ghost use Rattle.glob.specs.Match.{matches};
+ghost use Rattle.glob.specs.Alternative.{alternativeOf};
+ghost use Rattle.times.specs.Item.{itemOf, itemMatches};
+ghost use Rattle.condition.specs.Contract.{sortIn, judgementIn, judgementOf, judgeBy, nameApplies, appliesBy};
+
+// What is found of an alternative.
+pub enum Judgement {
+    Malformed,
+    Applies,
+    Misses,
+}
+
+fn of_test(applies: bool) -> Judgement
+    ensures { λ r. ⌜ r ≡ judgementIn applies ⌝ }
+{
+    if applies {
+        Judgement::Applies
+    } else {
+        Judgement::Misses
+    }
+}
+
+// Whether some group, of zero-ended strings, matches a brace-free pattern.
+fn some_group_matches(pattern: &[u8], groups: &[u8]) -> bool
+    ensures { λ r. ⌜ r ≡ any (matches (now (pattern .entry))) (stringsIn (now (groups .entry))) ⌝ }
+{
+    let mut from = 0;
+    while from < groups.len() {
+        let end = string_end(groups, from);
+        if end == groups.len() {
+            return false;
+        }
+        if matches_expansion(pattern, &groups[from..end]) {
+            return true;
+        }
+        from = end + 1;
+    }
+    false
+}
+
+// Whether the user, or some group, matches; where nothing is judged none does.
+fn name_matches(asks: Asks, judging: bool, pattern: &[u8], user: &[u8], groups: &[u8]) -> bool
+    ensures { λ r. ⌜ r ≡ nameApplies judging (sortIn asks) (now (user .entry)) (stringsIn (now (groups .entry))) (now (pattern .entry)) ⌝ }
+{
+    if !judging {
+        return false;
+    }
+    match asks {
+        Asks::User => matches_expansion(pattern, user),
+        Asks::Group => some_group_matches(pattern, groups),
+        Asks::Time => false,
+    }
+}
+
+// A user or group alternative: the name, and the host where there is one.
+fn judge_name(
+    asks: Asks,
+    judging: bool,
+    e: &[u8],
+    user: &[u8],
+    groups: &[u8],
+    host: &[u8],
+) -> Judgement
+    ensures { λ r. ⌜ r ≡ judgementOf (Option·map (appliesBy judging (sortIn asks) (now (user .entry)) (stringsIn (now (groups .entry))) (now (host .entry))) (alternativeOf (now (e .entry)))) ⌝ }
+{
+    match part(e) {
+        Parted::Malformed => Judgement::Malformed,
+        Parted::Name => of_test(name_matches(asks, judging, e, user, groups)),
+        Parted::NameAtHost(at) => {
+            if !name_matches(asks, judging, &e[..at], user, groups) {
+                return Judgement::Misses;
+            }
+            of_test(matches_expansion(&e[at + 1..], host))
+        }
+    }
+}
+
+// A time item.
+fn judge_time(judging: bool, e: &[u8], minute: WeekMinute) -> Judgement
+    ensures { λ r. ⌜ r ≡ judgementOf (Option·map (λ i. judging && itemMatches i (minute .0)) (itemOf (now (e .entry)))) ⌝ }
+{
+    match item_answer(e, minute) {
+        ItemAnswer::Malformed => Judgement::Malformed,
+        ItemAnswer::Misses => Judgement::Misses,
+        ItemAnswer::Matches => of_test(judging),
+    }
+}
+
+// One brace-free expansion; where nothing is judged only its form is looked at, and it does not apply.
+pub fn judge(
+    asks: Asks,
+    judging: bool,
+    e: &[u8],
+    user: &[u8],
+    groups: &[u8],
+    host: &[u8],
+    minute: WeekMinute,
+) -> Judgement
+    ensures { λ r. ⌜ r ≡ judgementOf (judgeBy judging (now (user .entry)) (now (groups .entry)) (now (host .entry)) (minute .0) (sortIn asks) (now (e .entry))) ⌝ }
+{
+    match asks {
+        Asks::User => judge_name(Asks::User, judging, e, user, groups, host),
+        Asks::Group => judge_name(Asks::Group, judging, e, user, groups, host),
+        Asks::Time => judge_time(judging, e, minute),
+    }
+}

@@ -1,0 +1,54 @@
+-- What only contracts and proofs cite: the answers of the functions hold places, those of the definitions lists.
+use Prim.Native.Nat.{ℕ, suc, _+_, _-_, _≤_, _<_}
+use mathlib.Core.Path.{_≡_}
+use mathlib.Core.Bool.{cond}
+use mathlib.Core.List.{List, [], _∷_}
+use mathlib.Core.Option.{Option, none, some}
+use lib.Dec.{eqb}
+use lib.ListN.{length, drop, take, getD}
+use Rattle.text.specs.Class.{range}
+use Rattle.glob.specs.Set.{ranges}
+use Rattle.glob.specs.Alternative.{Alternative, partsOf, alternativeOf}
+use Rattle.glob.specs.declared.alternative.ByteContext.{ByteContext}
+use Rattle.glob.specs.declared.alternative.ByteContext.the-variants.{Free}
+use Rattle.glob.specs.declared.alternative.Parted.{Parted}
+use Rattle.glob.specs.declared.alternative.Parted.the-variants.{Malformed, Name, NameAtHost}
+
+-- how many bytes stand in front of the first c, or of the end
+unfoldable pub lead : ℕ → List ℕ → ℕ
+lead c [] = 0
+lead c (b ∷ s) = cond (eqb b c) 0 (suc (lead c s))
+
+-- r is where the range that begins at `at` ends
+pub record RangeAt (s : List ℕ) (at r : ℕ) : Type 0 where
+  pub low : at ≤ r
+  pub high : r < length s
+  pub reads : ranges (drop at s) ≡ range (getD s at 0) (getD s r 0) ∷ ranges (drop (r + 1) s)
+
+-- a first part, and those behind the `@` that ends it
+abbrev pub partsBy : List ℕ → List ℕ → List (List ℕ)
+partsBy p [] = p ∷ []
+partsBy p (c ∷ s) = p ∷ partsOf Free s
+
+-- r is where the first `@` that parts stands from `from` on, read in this context, or the length
+pub record PartsFrom (w : ByteContext) (a : List ℕ) (from r : ℕ) : Type 0 where
+  pub low : from ≤ r
+  pub high : r ≤ length a
+  pub parts : partsOf w (drop from a) ≡ partsBy (take (r - from) (drop from a)) (drop r a)
+
+-- the alternative that an answer tells
+abbrev pub partedIn : List ℕ → Parted → Option Alternative
+partedIn a Malformed = none
+partedIn a Name = some record { name = a; host = none }
+partedIn a (NameAtHost i) = some record { name = take i a; host = some (drop (i + 1) a) }
+
+-- the `@` told stands in the bytes
+abbrev pub PartedWithin : List ℕ → Parted → Type 0
+PartedWithin a Malformed = Unit {0}
+PartedWithin a Name = Unit {0}
+PartedWithin a (NameAtHost i) = i < length a
+
+-- an answer tells the alternative that the bytes are
+pub record TellsAlternative (a : List ℕ) (r : Parted) : Type 0 where
+  pub within : PartedWithin a r
+  pub same : partedIn a r ≡ alternativeOf a

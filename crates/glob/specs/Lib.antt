@@ -1,0 +1,4 @@
+pub mod Set
+pub mod Match
+pub mod Alternative
+pub mod Contract

@@ -1,0 +1,112 @@
+// The bytes between the brackets of a set.
+ghost use mathlib.Core.Bool.{cond};
+ghost use mathlib.Core.Path.{_≡_};
+ghost use Prim.Native.Nat.{_+_, _≤_, _<_};
+ghost use lib.ListN.{length, drop};
+ghost use Rattle.text.specs.Class.{range, inRange};
+ghost use Rattle.text.specs.Lists.{all};
+ghost use Rattle.text.specs.Slice.{headIs};
+ghost use Rattle.glob.specs.Set.{ranges, rising, covered, goodSet, inSet};
+ghost use Rattle.glob.specs.Contract.{lead, RangeAt};
+
+// Where the first `]` at or after `at` stands, or the length.
+pub fn close(p: &[u8], at: usize) -> usize
+    ensures { λ r. ⌜ (r ≡ at + lead 93 (drop at (now (p .entry)))) × (at ≤ r) × (at ≤ length (now (p .entry)) → r ≤ length (now (p .entry))) ⌝ }
+{
+    let mut i = at;
+    while i < p.len() {
+        if p[i] == b']' {
+            return i;
+        }
+        i += 1;
+    }
+    i
+}
+
+// Where the range that begins at `at` ends: a plain byte is a range of one.
+fn range_end(body: &[u8], at: usize) -> usize
+    requires { ⌜ at < length (now body) ⌝ }
+    ensures { λ r. ⌜ RangeAt (now (body .entry)) at r ⌝ }
+{
+    if body.len() - at < 3 {
+        return at;
+    }
+    if body[at + 1] == b'-' {
+        return at + 2;
+    }
+    at
+}
+
+// Whether no range runs backwards.
+fn in_order(body: &[u8]) -> bool
+    ensures { λ r. ⌜ r ≡ all rising (ranges (now (body .entry))) ⌝ }
+{
+    let mut i = 0;
+    while i < body.len() {
+        let end = range_end(body, i);
+        if body[end] < body[i] {
+            return false;
+        }
+        i = end + 1;
+    }
+    true
+}
+
+fn is_between(low: u8, high: u8, b: u8) -> bool
+    ensures { λ r. ⌜ r ≡ inRange (range low high) b ⌝ }
+{
+    if low <= b {
+        return b <= high;
+    }
+    false
+}
+
+// Whether a range holds the byte.
+fn in_ranges(body: &[u8], b: u8) -> bool
+    ensures { λ r. ⌜ r ≡ covered (ranges (now (body .entry))) b ⌝ }
+{
+    let mut i = 0;
+    while i < body.len() {
+        let end = range_end(body, i);
+        if is_between(body[i], body[end], b) {
+            return true;
+        }
+        i = end + 1;
+    }
+    false
+}
+
+// Where the members begin, behind the `!` of a negated set.
+fn past_mark(body: &[u8]) -> usize
+    ensures { λ r. ⌜ (r ≡ cond (headIs 33 (now (body .entry))) 1 0) × (r ≤ length (now (body .entry))) ⌝ }
+{
+    if body.len() == 0 {
+        return 0;
+    }
+    if body[0] == b'!' {
+        return 1;
+    }
+    0
+}
+
+// Whether the set has members and its ranges are in order.
+pub fn good_set(body: &[u8]) -> bool
+    ensures { λ r. ⌜ r ≡ goodSet (now (body .entry)) ⌝ }
+{
+    let from = past_mark(body);
+    if body.len() <= from {
+        return false;
+    }
+    in_order(&body[from..])
+}
+
+// Whether the set holds the byte.
+pub fn in_set(body: &[u8], b: u8) -> bool
+    ensures { λ r. ⌜ r ≡ inSet (now (body .entry)) b ⌝ }
+{
+    let from = past_mark(body);
+    if from == 1 {
+        return !in_ranges(&body[from..], b);
+    }
+    in_ranges(&body[from..], b)
+}

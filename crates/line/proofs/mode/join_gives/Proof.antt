@@ -1,0 +1,28 @@
+use Rattle.line.specs.Joined.{parts, joint}
+use borrow.Author.Needs.{needs}
+use Rattle.line.proofs.mode.join_gives.Statement.{statement}
+use Rattle.line.proofs.mode.join_gives.Tie as tie
+use Rattle.line.proofs.mode.join_gives.Reads as reads
+use Rattle.line.proofs.mode.join_gives.Lts as lts
+use Rattle.text.proofs.class.is_word_byte.Reads as is-word-byte-reads
+
+enum-told : tie.Need-enum-told
+enum-told c = search needs
+
+is-word-byte-requires : tie.Need-is-word-byte-requires
+is-word-byte-requires c κs = search needs
+
+enum-told-2 : tie.Need-enum-told-2
+enum-told-2 c = search needs
+
+returns : tie.Need-returns
+unfolding joint
+returns c = simp (c .before .enum-told .given .1, c .is-word-byte .ensures)
+
+returns-2 : tie.Need-returns-2
+unfolding joint parts
+returns-2 c = simp (c .enum-told2 .given .1)
+
+pub join-gives-spec : {M : Type 1} → statement M
+join-gives-spec =
+    tie.close (tie.spec enum-told is-word-byte-requires enum-told-2 returns returns-2)

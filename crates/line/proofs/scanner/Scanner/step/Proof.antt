@@ -1,0 +1,49 @@
+use Rattle.line.proofs.ScannerLaws.{goes-then}
+use native.Mathlib.Omega.{arith}
+use mathlib.Core.Path.{sym, _∙_}
+use borrow.Author.Needs.{needs}
+use Rattle.line.proofs.scanner.Scanner.step.Statement.{statement}
+use Rattle.line.proofs.scanner.Scanner.step.Tie as tie
+use Rattle.line.proofs.scanner.Scanner.step.Reads as reads
+use Rattle.line.proofs.scanner.Scanner.step.Lts as lts
+use Rattle.line.proofs.scanner.Scanner.past_byte.Reads as past-byte-reads
+use Rattle.line.proofs.scanner.Scanner.past_join.Reads as past-join-reads
+use Rattle.line.proofs.scanner.Scanner.past_run.Reads as past-run-reads
+use Rattle.line.proofs.scanner.joins_at.Reads as joins-at-reads
+
+joins-at-requires : tie.Need-joins-at-requires
+joins-at-requires c κs = search needs
+
+past-join-requires : tie.Need-past-join-requires
+past-join-requires c κs = (c .before .before .before .before .before .before .pre .0, c .before .before .before .before .before .before .pre .1, sym (c .before .before .before .joins-at .ensures) ∙ c .before .before .if1 .taken)
+
+same-length : tie.Need-same-length
+same-length c = search needs
+
+returns : tie.Need-returns
+returns c = search needs
+
+past-byte-requires : tie.Need-past-byte-requires
+past-byte-requires c κs = (c .before .before .before .before .before .before .pre .0, c .before .before .before .before .before .before .pre .1, sym (c .before .before .before .joins-at .ensures) ∙ c .before .before .if1 .left)
+
+past-run-requires : tie.Need-past-run-requires
+past-run-requires c κs = search needs
+
+same-length-2 : tie.Need-same-length-2
+same-length-2 c = search needs
+
+returns-2 : tie.Need-returns-2
+returns-2 c = (omega (arith, c .before .before .before .before .before .before .before .past-byte .ensures .0, c .before .before .past-run .ensures .low), goes-then (c .before .before .before .before .before .before .before .past-byte .ensures .1) (c .before .before .past-run .ensures))
+
+pub step-spec : {M : Type 1} → statement M
+step-spec =
+    tie.close
+    (tie.spec
+    joins-at-requires
+    past-join-requires
+    same-length
+    returns
+    past-byte-requires
+    past-run-requires
+    same-length-2
+    returns-2)

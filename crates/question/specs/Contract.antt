@@ -1,0 +1,28 @@
+-- What the contracts of the functions say: a test of zero-ended strings, and whether there is a question.
+use Prim.Native.Nat.{ℕ}
+use mathlib.Core.Bool.{Bool, true, false}
+use mathlib.Core.List.{List}
+use mathlib.Core.Option.{Option, none, some}
+use Rattle.question.specs.Question.{Question, userBytes, mostGroups, mostArguments, goodName, goodArgument}
+use Rattle.question.specs.declared.form.Listed.{Listed}
+use Rattle.question.specs.declared.form.Listed.the-variants.{Groups, Arguments}
+
+-- a test of the strings; a list that has none fails it
+abbrev pub whenStrings : (List (List ℕ) → Bool) → Option (List (List ℕ)) → Bool
+whenStrings test none = false
+whenStrings test (some ps) = test ps
+
+-- how many strings a list may hold
+abbrev pub mostOf : Listed → ℕ
+mostOf Groups = mostGroups
+mostOf Arguments = mostArguments
+
+-- whether a string of a list is good
+abbrev pub goodOf : Listed → List ℕ → Bool
+goodOf Groups = goodName userBytes
+goodOf Arguments = goodArgument
+
+-- whether there is a question
+abbrev pub isQuestion : Option Question → Bool
+isQuestion none = false
+isQuestion (some q) = true

@@ -1,0 +1,153 @@
+-- What a control line can do to the state, and so to the decision. Assumes nothing.
+use mathlib.Core.Path.{_≡_, refl, sym, ap, _∙_}
+use mathlib.Core.Bool.{Bool, true, false, not, cond, _||_}
+use mathlib.Core.List.{List, [], _∷_}
+use mathlib.Core.Option.{Option, none, some, orElse, Option·map}
+use Prim.Native.Nat.{ℕ, zero, suc}
+use Rattle.text.specs.Bytes.{bytes}
+use Rattle.text.specs.Lists.{null}
+use Rattle.text.specs.Slice.{same}
+use Rattle.fault.specs.declared.Cause.{Cause}
+use Rattle.fault.specs.declared.Cause.the-variants.{ColonWord, EntryTooEarly, MissingPart, OptionTwice, TooManyNames}
+use Rattle.fault.specs.Fault.{Reading, fault, value, readAll}
+use Rattle.fault.proofs.Readings.{never, same-value, and-then, required}
+use Rattle.line.specs.declared.kind.LineKind.{LineKind}
+use Rattle.line.specs.Line.{Line}
+use Rattle.line.specs.Kind.{kindOf}
+use Rattle.question.specs.Question.{Question}
+use Rattle.variables.specs.Scope.{Definition, definition}
+use Rattle.variables.specs.Define.{defineName, defineText, defineIn}
+use Rattle.variables.specs.Substitute.{fieldText}
+use Rattle.options.specs.Read.{Setting, twice}
+use Rattle.entry.specs.Entry.{entryOf}
+use Rattle.entry.specs.Field.{Entry}
+use Rattle.entry.specs.Verdict.{Verdict, verdictOf}
+use Rattle.reader.specs.State.{State, decidedAt, scopeOf, withDefinition, withSettings, withEntry}
+use Rattle.reader.specs.Colon.{defined, textAfter, defineLine, globalField, globalLine, operatorOf, operatorHolds, restIf, rightAfter, operatorAfter, ifLine, colonWord}
+use Rattle.reader.specs.Read.{judgeFor, entryLine, byKind, fieldsRead, ifDepth, scannedRead, lineRead}
+use Rattle.line.specs.declared.kind.LineKind.the-variants.{NoField, Colon, Entry as EntryKind}
+use Rattle.line.specs.Scan.{Scanned, scanned, fault as scanFault, fields}
+
+-- what a control line with this number makes of the state s: it stays, has one definition more, the options of a `:global` line, or one entry more
+pub data Change (q : Question) (line : ℕ) (s t : State) : Type 0 where
+  stays : s ≡ t → Change q line s t
+  defines : (d : Definition) → withDefinition d s ≡ t → Change q line s t
+  sets : (fs : List (List ℕ)) (ss : List Setting) → readAll (globalField (scopeOf q s)) fs ≡ value ss → withSettings ss s ≡ t → Change q line s t
+  enters : (fs : List (List ℕ)) (e : Entry) → entryOf (judgeFor q) (scopeOf q s) fs ≡ value e → withEntry q line e s ≡ t → Change q line s t
+
+module _ (q : Question) (line : ℕ) (s t : State) where
+  -- ---- `:define`
+  by-defined : (d : Definition) (fs : List (List ℕ)) → defined (scopeOf q s) s d fs ≡ value t → Change q line s t
+  by-defined d [] e = defines d (same-value (and-then (defineIn d (s .definitions)) _ t e .2))
+  by-defined d (f ∷ fs) e = never (and-then (fieldText (scopeOf q s) f) _ t e .2)
+
+  by-text : (n : List ℕ) (fs : List (List ℕ)) → textAfter (scopeOf q s) s n fs ≡ value t → Change q line s t
+  by-text n [] e = never e
+  by-text n (f ∷ fs) e =
+      let u = and-then (fieldText (scopeOf q s) f) _ t e in
+      let v = and-then (defineText (u .0)) _ t (u .2) in
+      by-defined (definition n (v .0)) fs (v .2)
+
+  by-define : (fs : List (List ℕ)) → defineLine (scopeOf q s) s fs ≡ value t → Change q line s t
+  unfolding defineLine
+  by-define [] e = never e
+  by-define (f ∷ fs) e =
+      let u = and-then (fieldText (scopeOf q s) f) _ t e in
+      let v = and-then (defineName (u .0)) _ t (u .2) in
+      by-text (v .0) fs (v .2)
+
+  -- ---- `:global`
+  by-global : (fs : List (List ℕ)) → globalLine (scopeOf q s) s fs ≡ value t → Change q line s t
+  unfolding globalLine
+  by-global fs e =
+      let u = and-then (readAll (globalField (scopeOf q s)) fs) _ t e in
+      let v = required (not (null (u .0))) MissingPart _ t (u .2) in
+      sets fs (u .0) (u .1) (same-value (required (not (twice (u .0))) OptionTwice _ t (v .1) .1))
+
+  -- ---- `:if`, with what the rest of the line does
+  abbrev Deeper : Option (List (List ℕ) → Reading Cause State) → Type 0
+  Deeper none = Unit {0}
+  Deeper (some f) = (fs : List (List ℕ)) → f fs ≡ value t → Change q line s t
+
+  module _ (deeper : List (List ℕ) → Reading Cause State) (k : Deeper (some deeper)) where
+    by-rest : (taken : Bool) (fs : List (List ℕ)) → restIf deeper s taken fs ≡ value t → Change q line s t
+    by-rest taken [] e = never e
+    by-rest true (f ∷ fs) e = k (f ∷ fs) e
+    by-rest false (f ∷ fs) e = stays (same-value e)
+
+    by-right : (a : List ℕ) (o : Bool) (fs : List (List ℕ)) → rightAfter (scopeOf q s) deeper s a o fs ≡ value t → Change q line s t
+    by-right a o [] e = never e
+    by-right a o (f ∷ fs) e = let u = and-then (fieldText (scopeOf q s) f) _ t e in by-rest (operatorHolds o a (u .0)) fs (u .2)
+
+    by-operator : (a : List ℕ) (fs : List (List ℕ)) → operatorAfter (scopeOf q s) deeper s a fs ≡ value t → Change q line s t
+    by-operator a [] e = never e
+    by-operator a (f ∷ fs) e =
+        let u = and-then (fieldText (scopeOf q s) f) _ t e in
+        let v = and-then (operatorOf (u .0)) _ t (u .2) in
+        by-right a (v .0) fs (v .2)
+
+  by-if : (deeper : Option (List (List ℕ) → Reading Cause State)) → Deeper deeper → (fs : List (List ℕ)) → ifLine (scopeOf q s) deeper s fs ≡ value t → Change q line s t
+  unfolding ifLine
+  by-if none k fs e = never e
+  by-if (some deeper) k [] e = never e
+  by-if (some deeper) k (f ∷ fs) e = let u = and-then (fieldText (scopeOf q s) f) _ t e in by-operator deeper k (u .0) fs (u .2)
+
+  -- ---- all kinds of lines
+  by-word : (deeper : Option (List (List ℕ) → Reading Cause State)) → Deeper deeper → (fs : List (List ℕ)) (w : List ℕ) → colonWord (scopeOf q s) deeper s fs w ≡ value t → Change q line s t
+  unfolding colonWord
+  by-word deeper k fs w e = by (same w (bytes ":define")) (same w (bytes ":global") || same w (bytes ":global_options")) (same w (bytes ":if")) e
+    where
+      by : (a b c : Bool) → cond a (defineLine (scopeOf q s) s fs) (cond b (globalLine (scopeOf q s) s fs) (cond c (ifLine (scopeOf q s) deeper s fs) (fault ColonWord))) ≡ value t → Change q line s t
+      by true b c x = by-define fs x
+      by false true c x = by-global fs x
+      by false false true x = by-if deeper k fs x
+      by false false false x = never x
+
+  by-entry : (fs : List (List ℕ)) → entryLine q line s fs ≡ value t → Change q line s t
+  unfolding entryLine
+  by-entry fs e =
+      let u = required (s .shell) EntryTooEarly _ t e in
+      let v = and-then (entryOf (judgeFor q) (scopeOf q s) fs) _ t (u .1) in
+      enters fs (v .0) (v .1) (same-value (v .2))
+
+  by-kind : (deeper : Option (List (List ℕ) → Reading Cause State)) → Deeper deeper → (fs : List (List ℕ)) (k : LineKind) → byKind q line deeper s fs k ≡ value t → Change q line s t
+  by-kind deeper d fs NoField e = stays (same-value e)
+  by-kind deeper d [] Colon e = stays (same-value e)
+  by-kind deeper d (f ∷ fs) Colon e = let u = and-then (fieldText (scopeOf q s) f) _ t e in by-word deeper d fs (u .0) (u .2)
+  by-kind deeper d fs EntryKind e = by-entry fs e
+
+  by-fields : (depth : ℕ) (fs : List (List ℕ)) → fieldsRead depth q line s fs ≡ value t → Change q line s t
+  unfolding fieldsRead
+  by-fields zero fs e = by-kind none tt fs (kindOf fs) e
+  by-fields (suc depth) fs e = by-kind (some (λ r. fieldsRead depth q line s r)) (λ r x. by-fields depth r x) fs (kindOf fs) e
+
+pub line-change : (q : Question) (s t : State) (l : Line) → lineRead q s l ≡ value t → Change q (l .number) s t
+unfolding lineRead
+line-change q s t l e = by (scanned (l .bytes)) e
+  where
+    by : (x : Scanned) → scannedRead q (l .number) s x ≡ value t → Change q (l .number) s t
+    by (scanFault f) x = never x
+    by (fields fs) x = by-fields q (l .number) s t ifDepth fs x
+
+-- a line leaves the decision as it was, or makes the first one, with its own number
+pub record Keeps (line : ℕ) (s t : State) : Type 0 where
+  pub own : Option Verdict
+  pub decides : t .decision ≡ orElse (s .decision) (Option·map (decidedAt line) own)
+
+or-none : {A : Type 0} (o : Option A) → o ≡ orElse o none
+unfolding orElse
+or-none none = refl
+or-none (some a) = refl
+
+pub line-keeps : (q : Question) (s t : State) (l : Line) → lineRead q s l ≡ value t → Keeps (l .number) s t
+unfolding withDefinition withSettings withEntry
+line-keeps q s t l e = by (line-change q s t l e)
+  where
+    unchanged : s .decision ≡ t .decision → Keeps (l .number) s t
+    unchanged d = record { own = none; decides = sym d ∙ or-none (s .decision) }
+
+    by : Change q (l .number) s t → Keeps (l .number) s t
+    by (stays x) = unchanged (ap (λ u. u .decision) x)
+    by (defines d x) = unchanged (ap (λ u. u .decision) x)
+    by (sets fs ss r x) = unchanged (ap (λ u. u .decision) x)
+    by (enters fs c r x) = record { own = verdictOf q (s .options) (s .arguments) c; decides = sym (ap (λ u. u .decision) x) }
