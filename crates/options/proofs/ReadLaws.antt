@@ -1,18 +1,17 @@
 -- Reading one option: one law for each answer. Assumes nothing.
-use mathlib.Core.Path.{_≡_, refl, sym, _∙_}
+use mathlib.Core.Path.{_≡_, sym}
 use mathlib.Core.Bool.{Bool, true, false, cond, _&&_}
 use mathlib.Core.List.{List, [], _∷_}
 use mathlib.Core.Option.{Option, none, some, Option·map}
-use Prim.Native.Nat.{ℕ, suc, _+_, _-_, _≤_, _<_, min}
+use Prim.Native.Nat.{ℕ, suc, _+_, _-_, _≤_, _<_}
 use Prim.Native.String.{String}
 use native.Mathlib.Omega.{arith}
-use native.Mathlib.Decide.{decLe}
 use borrow.Author.Tests.{le-leb, lt-leb}
-use lib.Dec.{eqb, leb}
+use lib.Dec.{eqb}
 use lib.ListN.{length, take, drop}
 use lib.Seq.{take-all}
 use Rattle.text.specs.Bytes.{bytes}
-use Rattle.text.specs.Parts.{Parts, behind, partAt}
+use Rattle.text.specs.Parts.{Parts, withFirst, partAt}
 use Rattle.text.specs.Class.{range}
 use Rattle.text.specs.Slice.{same, startsWith, findByte}
 use Rattle.text.proofs.Laws.{part-rest, both-no}
@@ -174,7 +173,7 @@ unfolding valueIn partAt
 value-length [] = omega arith
 value-length (b ∷ s) = go (eqb b 61) (partAt 61 s) (value-length s)
   where
-    go : (q : Bool) (o : Option Parts) → length (backOf o) ≤ length s → length (backOf (cond q (some (record { front = []; back = s })) (behind b o))) ≤ suc (length s)
+    go : (q : Bool) (o : Option Parts) → length (backOf o) ≤ length s → length (backOf (cond q (some (record { front = []; back = s })) (Option·map (withFirst b) o))) ≤ suc (length s)
     go true o h = omega arith
     go false none h = omega arith
     go false (some p) h = omega arith

@@ -145,9 +145,3 @@ failuresAfter v (SetTimeout m) xs fs = fs
 failuresAfter v (SetNargs m n) xs fs = fs
 failuresAfter v (SetArgument m n) xs fs = failuresWith 1 (patternAt (range m n) v) xs fs
 failuresAfter v SetShell xs fs = fs
-
--- the failures of one list of patterns or of another
-unfoldable pub eitherFails : List Bool → List Bool → List Bool
-eitherFails [] gs = gs
-eitherFails (f ∷ fs) [] = f ∷ fs
-eitherFails (f ∷ fs) (g ∷ gs) = (f || g) ∷ eitherFails fs gs

@@ -1,6 +1,5 @@
 // Options: one from a field's text, a set of them laid over another, and what they allow.
 ghost use mathlib.Core.Path.{_≡_};
-ghost use mathlib.Core.Bool.{_||_};
 ghost use mathlib.Core.List.{[]};
 ghost use Rattle.options.specs.Read.{setId};
 
@@ -33,10 +32,4 @@ impl Id {
             Id::Egid => 3,
         }
     }
-}
-
-fn or(a: bool, b: bool) -> bool
-    ensures { λ r. ⌜ r ≡ a || b ⌝ }
-{
-    if a { true } else { b }
 }
