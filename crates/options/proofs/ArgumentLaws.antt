@@ -1,8 +1,7 @@
 -- Which arguments fail a pattern, kept by value. Assumes nothing.
 use mathlib.Core.Path.{_≡_, refl, sym, ap, _∙_}
 use mathlib.Core.Bool.{Bool, true, false, not, _&&_, _||_}
-use mathlib.Core.List.{List, [], _∷_, _++_, append-nil}
-use mathlib.Core.Option.{some}
+use mathlib.Core.List.{List, [], _∷_, _++_, append-nil, append-assoc}
 use Prim.Native.Nat.{ℕ, zero, suc, _+_, _-_, _≤_, _<_}
 use native.Mathlib.Omega.{arith}
 use native.Mathlib.Numerals.{add-one}
@@ -18,11 +17,13 @@ use Rattle.question.proofs.ZeroEnded.{in-at, in-open, in-end}
 use Rattle.pattern.specs.declared.Syntax.the-variants.{Plain}
 use Rattle.pattern.specs.Whole.{expansionsOf, fieldExpansions, matchesPattern}
 use Rattle.text.specs.Class.{Range, range}
+use Rattle.text.specs.Limits.{fieldLimit}
 use Rattle.options.specs.Arguments.{ArgumentPattern, passes, argumentsFrom, argumentsPass, inForce}
-use Rattle.options.specs.Contract.{settingIn, patternAt, failuresFrom, failures, failuresWith, failuresAfter, eitherFails}
+use Rattle.options.specs.Read.{lastPosition}
+use Rattle.options.specs.Contract.{settingIn, patternAt, failuresFrom, failures, failuresWith, failuresAfter}
 use Rattle.options.specs.declared.Id.the-variants.{Uid, Euid, Gid, Egid}
-use Rattle.options.specs.declared.read.OptionSetting.{OptionSetting}
-use Rattle.options.specs.declared.read.OptionSetting.the-variants.{SetId, SetAuth, SetTimeout, SetNargs, SetArgument, SetShell}
+use Rattle.options.specs.declared.setting.OptionSetting.{OptionSetting}
+use Rattle.options.specs.declared.setting.OptionSetting.the-variants.{SetId, SetAuth, SetTimeout, SetNargs, SetArgument, SetShell}
 
 -- one argument and one pattern
 module _ (k m n : ℕ) (p a : List ℕ) {b : Bool} (e : b ≡ false) where
@@ -45,10 +46,6 @@ module _ (l : List Bool) (i : ℕ) (b : Bool) (h : i < length l) where
 
   stored-back : drop (i + 1) (set l i b) ≡ drop (i + 1) l
   stored-back = drop-set-lt (i + 1) l i b (omega arith)
-
-append-one : (xs : List Bool) (b : Bool) (ys : List Bool) → (xs ++ (b ∷ [])) ++ ys ≡ xs ++ (b ∷ ys)
-append-one [] b ys = refl
-append-one (x ∷ xs) b ys = ap (λ l. x ∷ l) (append-one xs b ys)
 
 marked-none : (i : ℕ) (p : ArgumentPattern) (fs : List Bool) → failuresWith i p [] fs ≡ fs
 unfolding failuresWith
@@ -81,27 +78,11 @@ module _ (p : ArgumentPattern) (args : List ℕ) (at : List Bool) (from i : ℕ)
     unfolding failuresWith
     marked-on h k {b} q =
         rw (stored-front at i b k, stored-back at i b k, in-at args from end e h, next-of false at i k, ← q)
-        (append-one (take i at) b (failuresWith (i + 1 + 1) p (stringsIn (drop (end + 1) args)) (drop (i + 1) at)))
+        (append-assoc (take i at) (b ∷ []) (failuresWith (i + 1 + 1) p (stringsIn (drop (end + 1) args)) (drop (i + 1) at)))
 
 -- an arm of a `match` knows which setting it has
 pub failures-of : {s k : OptionSetting} (v : List ℕ) (xs : List (List ℕ)) (fs : List Bool) {r : List Bool} → s ≡ k → r ≡ failuresAfter v k xs fs → r ≡ failuresAfter v s xs fs
 failures-of v xs fs e h = rw e h
-
--- the loop that joins two lists of failures
-module _ (at other : List Bool) (i : ℕ) where
-  abbrev pub joinedFrom : List Bool
-  joinedFrom = take i at ++ eitherFails (drop i at) (drop i other)
-
-  pub joined-end : length at ≤ i → length other ≤ i → at ≡ joinedFrom
-  unfolding eitherFails
-  joined-end h k = sym (rw (drop-of-length-le at h, drop-of-length-le other k, take-all i at h) (append-nil at))
-
-  pub joined-on : i < length at → i < length other → {b : Bool} → b ≡ getD at i false || getD other i false
-      → take (i + 1) (set at i b) ++ eitherFails (drop (i + 1) (set at i b)) (drop (i + 1) other) ≡ joinedFrom
-  unfolding eitherFails
-  joined-on h k {b} q =
-      rw (stored-front at i b h, stored-back at i b h, next-of false at i h, next-of false other i k, ← q)
-      (append-one (take i at) b (eitherFails (drop (i + 1) at) (drop (i + 1) other)))
 
 -- what the failures mean
 
@@ -118,9 +99,9 @@ none-from (suc n) i [] = empty-from (suc n) i []
 none-from (suc n) i (a ∷ xs) = ap (λ l. false ∷ l) (none-from n (i + 1) xs)
 
 -- no pattern, no failure
-pub failures-none : (xs : List (List ℕ)) → replicate 64 false ≡ failures [] xs
+pub failures-none : (xs : List (List ℕ)) → replicate lastPosition false ≡ failures [] xs
 unfolding failures
-failures-none xs = sym (none-from 64 1 xs)
+failures-none xs = sym (none-from lastPosition 1 xs)
 
 fail-more : (f : ArgumentPattern → Bool) (ps qs : List ArgumentPattern) → not (all f (ps ++ qs)) ≡ not (all f ps) || not (all f qs)
 fail-more f ps qs = ap not (all-append f ps qs) ∙ not-both (all f ps) (all f qs)
@@ -135,12 +116,12 @@ more-from (suc n) i ps p (a ∷ xs) =
     rw (h, more-from n (i + 1) ps p xs)
 
 -- a pattern that is no longer than a field
-within-field : (r : Range) (v : List ℕ) → length v ≤ 1024 → patternAt r v ≡ record { positions = r; expansions = expansionsOf Plain v }
+within-field : (r : Range) (v : List ℕ) → length v ≤ fieldLimit → patternAt r v ≡ record { positions = r; expansions = expansionsOf Plain v }
 unfolding fieldExpansions
-within-field r v h = rw (le-leb (length v) 1024 h)
+within-field r v h = rw (le-leb (length v) fieldLimit h)
 
 -- one more setting of a line, by a value that is no longer than a field
-pub failures-more : (ps : List ArgumentPattern) (v : List ℕ) (s : OptionSetting) (xs : List (List ℕ)) → length v ≤ 1024
+pub failures-more : (ps : List ArgumentPattern) (v : List ℕ) (s : OptionSetting) (xs : List (List ℕ)) → length v ≤ fieldLimit
     → failuresAfter v s xs (failures ps xs) ≡ failures (ps ++ settingIn v s .arguments) xs
 unfolding failures
 failures-more ps v (SetId Uid) xs h = rw (append-nil ps)
@@ -150,24 +131,8 @@ failures-more ps v (SetId Egid) xs h = rw (append-nil ps)
 failures-more ps v (SetAuth b) xs h = rw (append-nil ps)
 failures-more ps v (SetTimeout m) xs h = rw (append-nil ps)
 failures-more ps v (SetNargs m n) xs h = rw (append-nil ps)
-failures-more ps v (SetArgument m n) xs h = rw (within-field (range m n) v h) (more-from 64 1 ps (record { positions = range m n; expansions = expansionsOf Plain v }) xs)
+failures-more ps v (SetArgument m n) xs h = rw (within-field (range m n) v h) (more-from lastPosition 1 ps (record { positions = range m n; expansions = expansionsOf Plain v }) xs)
 failures-more ps v SetShell xs h = rw (append-nil ps)
-
-same-from : (n : ℕ) → eitherFails (replicate n false) (replicate n false) ≡ replicate n false
-unfolding eitherFails
-same-from zero = refl
-same-from (suc n) = ap (λ l. false ∷ l) (same-from n)
-
-either-from : (n i : ℕ) (ps qs : List ArgumentPattern) (xs : List (List ℕ)) → eitherFails (failuresFrom n i ps xs) (failuresFrom n i qs xs) ≡ failuresFrom n i (ps ++ qs) xs
-unfolding failuresFrom eitherFails
-either-from zero i ps qs xs = refl
-either-from (suc n) i ps qs [] = ap (λ l. false ∷ l) (rw (empty-from n (i + 1) ps, empty-from n (i + 1) qs, empty-from n (i + 1) (ps ++ qs)) (same-from n))
-either-from (suc n) i ps qs (a ∷ xs) = rw (fail-more (passes i a) ps qs, either-from n (i + 1) ps qs xs)
-
--- the patterns in force globally and the entry's own
-pub failures-own : (global own : List ArgumentPattern) (xs : List (List ℕ)) → eitherFails (failures global xs) (failures own xs) ≡ failures (inForce global own) xs
-unfolding failures inForce
-failures-own global own xs = either-from 64 1 global own xs
 
 some-from : (n i : ℕ) (ps : List ArgumentPattern) (xs : List (List ℕ)) → length xs ≤ n → argumentsFrom i ps xs ≡ not (any (λ f. f) (failuresFrom n i ps xs))
 unfolding failuresFrom argumentsFrom any
@@ -181,11 +146,12 @@ some-from (suc n) i ps (a ∷ xs) h = rw (some-from n (i + 1) ps xs (omega arith
     go false b = refl
 
 -- all arguments pass exactly if none fails
-pub arguments-pass : (ps : List ArgumentPattern) (xs : List (List ℕ)) → length xs ≤ 64 → argumentsPass ps xs ≡ not (any (λ f. f) (failures ps xs))
+pub arguments-pass : (ps : List ArgumentPattern) (xs : List (List ℕ)) → length xs ≤ lastPosition → argumentsPass ps xs ≡ not (any (λ f. f) (failures ps xs))
 unfolding failures argumentsPass
-arguments-pass ps xs h = some-from 64 1 ps xs h
+arguments-pass ps xs h = some-from lastPosition 1 ps xs h
 
--- so what is kept of the patterns in force globally and of the entry's own says whether the arguments pass
-pub arguments-in-force : (global own : List ArgumentPattern) (xs : List (List ℕ)) → length xs ≤ 64
-    → argumentsPass (inForce global own) xs ≡ not (any (λ f. f) (eitherFails (failures global xs) (failures own xs)))
-arguments-in-force global own xs h = rw (failures-own global own xs) (arguments-pass (inForce global own) xs h)
+-- so the failures of the patterns in force globally with the entry's own say whether the arguments pass
+pub arguments-in-force : (global own : List ArgumentPattern) (xs : List (List ℕ)) → length xs ≤ lastPosition
+    → argumentsPass (inForce global own) xs ≡ not (any (λ f. f) (failures (global ++ own) xs))
+unfolding inForce
+arguments-in-force global own xs h = arguments-pass (global ++ own) xs h

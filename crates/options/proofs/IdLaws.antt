@@ -8,7 +8,7 @@ use native.Mathlib.Omega.{arith}
 use native.Mathlib.Numerals.{add-one}
 use borrow.Author.Tests.{not-true, not-false}
 use lib.ListN.{length, take, getD, set}
-use lib.Seq.{take-all, take-suc, take-suc-set}
+use lib.Seq.{take-suc, take-suc-set}
 use Rattle.text.specs.Bytes.{bytes}
 use Rattle.text.specs.Class.{nameByte}
 use Rattle.text.specs.Lists.{all, null}
@@ -29,6 +29,14 @@ module _ (a b : IdName) where
   pub id-else : a .given ≡ false → idIn b ≡ orElse (idIn a) (idIn b)
   unfolding idIn orElse
   id-else e = rw e
+
+pub id-told : (a : IdName) → idIn a ≡ cond (a .given) (some (idOr (idIn a))) none
+unfolding idIn
+id-told a = go (a .given)
+  where
+    go : (b : Bool) → cond b (some (take (a .size) (a .bytes))) none ≡ cond b (some (idOr (cond b (some (take (a .size) (a .bytes))) none))) none
+    go true = refl
+    go false = refl
 
 -- one more byte copied
 pub copied : (a s : List ℕ) (i : ℕ) → i < length s → i < length a → take i a ≡ take i s → take (i + 1) (set a i (getD s i 0)) ≡ take (i + 1) s

@@ -1,36 +1,36 @@
 -- Reading one option: one law for each answer. Assumes nothing.
-use mathlib.Core.Path.{_≡_, refl, sym, ap, _∙_}
-use mathlib.Core.Bool.{Bool, true, false, _&&_}
+use mathlib.Core.Path.{_≡_, sym}
+use mathlib.Core.Bool.{Bool, true, false, cond, _&&_}
 use mathlib.Core.List.{List, [], _∷_}
 use mathlib.Core.Option.{Option, none, some, Option·map}
-use Prim.Native.Nat.{ℕ, _+_, _-_, _≤_, _<_, min}
+use Prim.Native.Nat.{ℕ, suc, _+_, _-_, _≤_, _<_}
 use Prim.Native.String.{String}
 use native.Mathlib.Omega.{arith}
-use native.Mathlib.Decide.{decLe}
 use borrow.Author.Tests.{le-leb, lt-leb}
-use lib.Dec.{leb}
+use lib.Dec.{eqb}
 use lib.ListN.{length, take, drop}
 use lib.Seq.{take-all}
 use Rattle.text.specs.Bytes.{bytes}
-use Rattle.text.specs.Class.{Range, range}
+use Rattle.text.specs.Parts.{Parts, withFirst, partAt}
+use Rattle.text.specs.Class.{range}
 use Rattle.text.specs.Slice.{same, startsWith, findByte}
-use Rattle.text.specs.declared.slice.Found.the-variants.{At, Nothing as Missing}
 use Rattle.text.proofs.Laws.{part-rest, both-no}
 use Rattle.text.proofs.Lists.{parted-found, parted-missing}
 use Rattle.text.proofs.Slices.{same-true}
-use Rattle.fault.specs.Fault.{Reading, fault, value, needed, require}
+use Rattle.fault.specs.Fault.{Reading, fault, value}
 use Rattle.fault.specs.declared.Cause.{Cause}
-use Rattle.fault.specs.declared.Cause.the-variants.{IdLength, OptionValue, PatternKind, Pattern as BadPattern, PatternSize}
 use Rattle.pattern.specs.declared.Syntax.the-variants.{Plain}
 use Rattle.pattern.specs.Tree.{expanded}
 use Rattle.pattern.specs.Whole.{expansionsOf}
 use Rattle.options.specs.Read.{Setting, setId, setAuth, setNargs, setShell, setArgument, idLimit, lastPosition, mostNargs, isId, idOf, authOf, timeoutOf, numberRange, nargsOf, patternsOf, argumentOf, optionNamed, optionOf}
-use Rattle.options.specs.Contract.{spanIn, valueIn, readIn}
+use Rattle.options.specs.Contract.{spanIn, backOf, valueIn, readIn}
 use Rattle.options.specs.declared.Id.{Id}
 use Rattle.options.specs.declared.Id.the-variants.{Uid, Euid, Gid, Egid}
 use Rattle.options.specs.declared.read.OptionRead.{OptionRead}
 use Rattle.options.specs.declared.span.Span.{Span}
 use Rattle.options.specs.declared.span.Span.the-variants.{Nothing, Between}
+use Rattle.text.specs.declared.slice.Found.the-variants.{At, Nothing as Missing}
+use Rattle.fault.specs.declared.Cause.the-variants.{IdLength, OptionValue, PatternKind, Pattern as BadPattern, PatternSize}
 
 module _ (v : List ℕ) where
   module _ (i : Id) where
@@ -166,3 +166,14 @@ module _ (t : List ℕ) {i : ℕ} (e : findByte 61 0 t ≡ At i) where
   pub option-found : (g : Bool) (x : OptionRead) → readIn (take (length t - (i + 1)) (drop (i + 1) t)) x ≡ optionNamed g (take i t) (take (length t - (i + 1)) (drop (i + 1) t)) → readIn (valueIn t) x ≡ optionOf g t
   unfolding optionOf valueIn
   option-found g x h = rw (parted-found 61 t i e) (rw (part-rest (i + 1) t) at h)
+
+-- a value is no longer than its text
+pub value-length : (t : List ℕ) → length (valueIn t) ≤ length t
+unfolding valueIn partAt
+value-length [] = omega arith
+value-length (b ∷ s) = go (eqb b 61) (partAt 61 s) (value-length s)
+  where
+    go : (q : Bool) (o : Option Parts) → length (backOf o) ≤ length s → length (backOf (cond q (some (record { front = []; back = s })) (Option·map (withFirst b) o))) ≤ suc (length s)
+    go true o h = omega arith
+    go false none h = omega arith
+    go false (some p) h = omega arith

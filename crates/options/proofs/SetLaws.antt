@@ -15,18 +15,18 @@ use Rattle.options.specs.Read.{Setting, idLimit, setId}
 use Rattle.options.specs.Contract.{idIn, authIn, timeoutIn, spanIn, optionsIn, idAt, settingIn, PartOf}
 use Rattle.options.specs.declared.Id.{Id}
 use Rattle.options.specs.declared.Id.the-variants.{Uid, Euid, Gid, Egid}
-use Rattle.options.specs.declared.read.OptionSetting.{OptionSetting}
-use Rattle.options.specs.declared.read.OptionSetting.the-variants.{SetId, SetAuth, SetTimeout, SetNargs, SetArgument, SetShell}
+use Rattle.options.specs.declared.setting.OptionSetting.{OptionSetting}
+use Rattle.options.specs.declared.setting.OptionSetting.the-variants.{SetId, SetAuth, SetTimeout, SetNargs, SetArgument, SetShell}
 use Rattle.options.specs.declared.set.Auth.the-variants.{Unset}
 use Rattle.options.specs.declared.set.OptionSet.{OptionSet}
-use Rattle.options.specs.declared.set.Part.{Part}
+use Rattle.options.specs.declared.setting.Part.{Part}
 use Rattle.options.specs.declared.span.Span.{Span}
 use Rattle.options.specs.declared.span.Span.the-variants.{Nothing, Between}
 use Rattle.options.specs.declared.timeout.Timeout.{Timeout}
-use Rattle.options.specs.declared.timeout.Timeout.the-variants.{Unset as NoTimeout, Minutes}
 use mir.Syntax.{w32}
 use mir.Val.{SFits, toZ, ofZ}
 use mir.ValLaws.{toZ-ofZ}
+use Rattle.options.specs.declared.timeout.Timeout.the-variants.{Unset as NoTimeout, Minutes}
 
 module _ {A : Type 0} where
   else-assoc : (a b c : Option A) → orElse (orElse a b) c ≡ orElse a (orElse b c)

@@ -1,7 +1,7 @@
 -- Argument patterns: which arguments they cover, and whether all of these match (01: "an argument must match each that covers it").
-use Prim.Native.Nat.{ℕ, _+_}
 use mathlib.Core.Bool.{Bool, true, not, _&&_, _||_}
 use mathlib.Core.List.{List, [], _∷_, _++_}
+use Prim.Native.Nat.{ℕ, _+_}
 use Rattle.text.specs.Class.{Range, inRange}
 use Rattle.text.specs.Lists.{all}
 use Rattle.glob.specs.Match.{matchesSome}

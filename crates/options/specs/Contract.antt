@@ -1,9 +1,9 @@
 -- What the values of the code stand for, and what is kept of a line's settings while its fields are read: cited by contracts and proofs only.
-use Prim.Native.Nat.{ℕ, zero, suc, _+_}
 use mathlib.Core.Path.{_≡_}
 use mathlib.Core.Bool.{Bool, true, false, not, cond, _||_}
 use mathlib.Core.List.{List, [], _∷_}
 use mathlib.Core.Option.{Option, none, some}
+use Prim.Native.Nat.{ℕ, zero, suc, _+_}
 use lib.IntN.{ℤ}
 use lib.ListN.{take, getD, set}
 use Rattle.text.specs.Bytes.{byte}
@@ -20,30 +20,32 @@ use Rattle.options.specs.declared.ids.IdName.{IdName}
 use Rattle.options.specs.declared.line.LineOptions.{LineOptions}
 use Rattle.options.specs.declared.read.OptionRead.{OptionRead}
 use Rattle.options.specs.declared.read.OptionRead.the-variants.{NotOption, Faulty, Set}
-use Rattle.options.specs.declared.read.OptionSetting.{OptionSetting}
-use Rattle.options.specs.declared.read.OptionSetting.the-variants.{SetId, SetAuth, SetTimeout, SetNargs, SetArgument, SetShell}
+use Rattle.options.specs.declared.setting.OptionSetting.{OptionSetting}
+use Rattle.options.specs.declared.setting.OptionSetting.the-variants.{SetId, SetAuth, SetTimeout, SetNargs, SetArgument, SetShell}
 use Rattle.options.specs.declared.set.Auth.{Auth}
 use Rattle.options.specs.declared.set.Auth.the-variants.{Unset, Yes, No}
 use Rattle.options.specs.declared.set.OptionSet.{OptionSet}
-use Rattle.options.specs.declared.set.Part.{Part}
+use Rattle.options.specs.declared.setting.Part.{Part}
 use Rattle.options.specs.declared.span.Span.{Span}
 use Rattle.options.specs.declared.span.Span.the-variants.{Nothing, Between}
 use Rattle.options.specs.declared.timeout.Timeout.{Timeout}
-use Rattle.options.specs.declared.timeout.Timeout.the-variants.{Unset as NoTimeout, Minutes}
 use Rattle.options.specs.Options.{Options}
 use Rattle.options.specs.Arguments.{ArgumentPattern, passes}
 use Rattle.options.specs.Read.{Setting, idLimit, lastPosition, setId, setAuth, setTimeout, setNargs, setShell, setArgument, isOption, twice}
+use Rattle.options.specs.declared.timeout.Timeout.the-variants.{Unset as NoTimeout, Minutes}
 
 -- a range, or none
 abbrev pub spanIn : Span → Option Range
 spanIn Nothing = none
 spanIn (Between m n) = some (range m n)
 
+-- auth, or none
 abbrev pub authIn : Auth → Option Bool
 authIn Unset = none
 authIn Yes = some true
 authIn No = some false
 
+-- a timeout, or none
 abbrev pub timeoutIn : Timeout → Option ℤ
 timeoutIn NoTimeout = none
 timeoutIn (Minutes m) = some m
@@ -71,6 +73,7 @@ idAt o Euid = o .euid
 idAt o Gid = o .gid
 idAt o Egid = o .egid
 
+-- what stands behind the byte that parts
 abbrev pub backOf : Option Parts → List ℕ
 backOf none = []
 backOf (some p) = p .back
@@ -142,9 +145,3 @@ failuresAfter v (SetTimeout m) xs fs = fs
 failuresAfter v (SetNargs m n) xs fs = fs
 failuresAfter v (SetArgument m n) xs fs = failuresWith 1 (patternAt (range m n) v) xs fs
 failuresAfter v SetShell xs fs = fs
-
--- the failures of one list of patterns or of another
-unfoldable pub eitherFails : List Bool → List Bool → List Bool
-eitherFails [] gs = gs
-eitherFails (f ∷ fs) [] = f ∷ fs
-eitherFails (f ∷ fs) (g ∷ gs) = (f || g) ∷ eitherFails fs gs

@@ -1,8 +1,8 @@
 -- The options that hold one setting, and one set of them laid over another (01, "Options").
-use Prim.Native.Nat.{ℕ}
 use mathlib.Core.Bool.{Bool, true, false}
 use mathlib.Core.List.{List, []}
 use mathlib.Core.Option.{Option, none, some, orElse, Option·getD}
+use Prim.Native.Nat.{ℕ}
 use lib.IntN.{ℤ, pos}
 use Rattle.text.specs.Class.{Range, inRange}
 

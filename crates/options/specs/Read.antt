@@ -1,8 +1,8 @@
 -- One option from a field's text: its name, its value, or its fault; and the options of a line (01, "Options").
-use Prim.Native.Nat.{ℕ}
 use mathlib.Core.Bool.{Bool, true, false, not, cond, _&&_, _||_}
 use mathlib.Core.List.{List, [], _∷_, _++_}
 use mathlib.Core.Option.{Option, none, some, Option·map}
+use Prim.Native.Nat.{ℕ}
 use lib.IntN.{ℤ, pos, negℤ}
 use lib.Dec.{eqb, leb, ltb}
 use lib.ListN.{length, drop}
@@ -36,10 +36,11 @@ lastPosition = 64
 abbrev pub mostNargs : ℕ
 mostNargs = 64
 
--- the most minutes of a timeout, and the most below zero
+-- the most minutes of a timeout
 abbrev pub mostMinutes : ℕ
 mostMinutes = 32767
 
+-- the most minutes of a timeout below zero
 abbrev pub mostBelow : ℕ
 mostBelow = 32768
 
@@ -49,22 +50,26 @@ pub record Setting : Type 0 where
   pub options : Options
   pub arguments : List ArgumentPattern
 
--- one of the eight options that may not stand twice, by its number
+-- a setting of one of the eight options that may not stand twice, by its number
 abbrev pub setOne : ℕ → Options → Setting
 setOne k o = record { which = k; options = o; arguments = [] }
 
+-- one of the four ids
 abbrev pub setId : Id → List ℕ → Setting
 setId Uid v = setOne 0 (idsOnly (some v) none none none)
 setId Euid v = setOne 1 (idsOnly none (some v) none none)
 setId Gid v = setOne 2 (idsOnly none none (some v) none)
 setId Egid v = setOne 3 (idsOnly none none none (some v))
 
+-- auth
 abbrev pub setAuth : Bool → Setting
 setAuth b = setOne 4 (noIds (some b) none none)
 
+-- timeout
 abbrev pub setTimeout : ℤ → Setting
 setTimeout t = setOne 5 (noIds none (some t) none)
 
+-- nargs
 abbrev pub setNargs : Range → Setting
 setNargs r = setOne 6 (noIds none none (some r))
 
@@ -72,17 +77,17 @@ setNargs r = setOne 6 (noIds none none (some r))
 abbrev pub setShell : Setting
 setShell = setOne 7 noOptions
 
--- an argument pattern, for the positions of a range
+-- an argument pattern, for the positions of a range: it may stand twice
 abbrev pub setArgument : Range → List (List ℕ) → Setting
 setArgument r e = record { which = 8; options = noOptions; arguments = record { positions = r; expansions = e } ∷ [] }
 
--- from one number to another, least and most counted, the first not above the second
+-- from one number to another, not below least, not above most, the first not above the second
 abbrev pub rangeBetween : ℕ → ℕ → Number → Number → Option Range
 rangeBetween least most (Value m) (Value n) = cond (leb least m && (leb m n && leb n most)) (some (range m n)) none
 rangeBetween least most (Value m) Malformed = none
 rangeBetween least most Malformed n = none
 
--- one number stands for itself
+-- the two numbers of a range; one number stands for both
 abbrev pub rangeParts : ℕ → ℕ → List ℕ → Option Parts → Option Range
 rangeParts least most s none = rangeBetween least most (numberOf s) (numberOf s)
 rangeParts least most s (some p) = rangeBetween least most (numberOf (p .front)) (numberOf (p .back))
@@ -138,11 +143,12 @@ optionNamed global n v =
     (cond (startsWith (bytes "arg") n) (Option·map (λ r. argumentOf r v) (numberRange 1 lastPosition (drop 3 n)))
     none))))))))
 
+-- what stands before and behind the first `=`, where there is one
 abbrev pub optionParts : Bool → Option Parts → Option (Reading Cause Setting)
 optionParts global none = none
 optionParts global (some p) = optionNamed global (p .front) (p .back)
 
--- a field's text as an option, where it is one: the name stands before the first `=`
+-- a field's text as an option, where it is one
 unfoldable pub optionOf : Bool → List ℕ → Option (Reading Cause Setting)
 optionOf global t = optionParts global (partAt (byte "=") t)
 

@@ -1,6 +1,5 @@
 // Which arguments fail an argument pattern: nothing of the patterns is kept but this.
-use super::or;
-use super::read::OptionSetting;
+use super::setting::OptionSetting;
 use pattern::Syntax;
 use pattern::matcher::matches_pattern;
 use question::strings::string_end;
@@ -13,9 +12,9 @@ ghost use Rattle.text.specs.Class.{range};
 ghost use Rattle.text.specs.Lists.{any};
 ghost use Rattle.question.specs.Strings.{stringsIn};
 ghost use Rattle.options.specs.Arguments.{passes};
-ghost use Rattle.options.specs.Contract.{patternAt, failures, failuresWith, failuresAfter, eitherFails};
+ghost use Rattle.options.specs.Contract.{patternAt, failures, failuresWith, failuresAfter};
 
-// Which positions fail.
+// Which positions fail; the entry's own patterns are added to those in force globally.
 pub struct Failures {
     at: [bool; Failures::POSITIONS],
 }
@@ -86,20 +85,6 @@ impl Failures {
             OptionSetting::SetArgument(first, last) => self.mark(first, last, value, args),
             _ => self,
         }
-    }
-
-    // What fails the patterns in force globally or the entry's own.
-    pub fn with_own(self, own: Failures) -> Self
-        ensures { λ r. ⌜ r .at ≡ eitherFails (self .at) (own .at) ⌝ }
-    {
-        let mut at = self.at;
-        let other = own.at;
-        let mut i: usize = 0;
-        while i < Failures::POSITIONS {
-            at[i] = or(at[i], other[i]);
-            i += 1;
-        }
-        Failures { at }
     }
 
     // Whether the argument with that index, from 0, fails.

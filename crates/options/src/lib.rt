@@ -1,6 +1,5 @@
 // Options: one from a field's text, a set of them laid over another, and what they allow.
 ghost use mathlib.Core.Path.{_≡_};
-ghost use mathlib.Core.Bool.{_||_};
 ghost use mathlib.Core.List.{[]};
 ghost use Rattle.options.specs.Read.{setId};
 
@@ -9,6 +8,7 @@ pub mod ids; // user and group names in options
 pub mod line; // which options stand on a line
 pub mod read; // one option from a field's text
 pub mod set; // the options that hold one setting, and one set of them laid over another
+pub mod setting; // what an option sets
 pub mod span; // ranges of numbers
 pub mod timeout; // the value of a timeout
 
@@ -21,7 +21,7 @@ pub enum Id {
 }
 
 impl Id {
-    // Its number among the options.
+    // Its number among the options, whatever its value.
     fn number(self) -> usize
         ensures { λ r. ⌜ r ≡ setId self [] .which ⌝ }
     {
@@ -32,10 +32,4 @@ impl Id {
             Id::Egid => 3,
         }
     }
-}
-
-fn or(a: bool, b: bool) -> bool
-    ensures { λ r. ⌜ r ≡ a || b ⌝ }
-{
-    if a { true } else { b }
 }

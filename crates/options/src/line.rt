@@ -1,9 +1,8 @@
 // Which options stand on a line.
-use super::or;
-use super::read::OptionSetting;
+use super::setting::OptionSetting;
 ghost use Prim.Native.Nat.{ℕ};
 ghost use mathlib.Core.Path.{_≡_};
-ghost use mathlib.Core.Bool.{false};
+ghost use mathlib.Core.Bool.{false, _||_};
 ghost use mathlib.Core.List.{List, []};
 ghost use lib.ListN.{getD};
 ghost use Rattle.options.specs.Contract.{settingIn, lineOf, noted};
@@ -12,6 +11,12 @@ ghost use Rattle.options.specs.Contract.{settingIn, lineOf, noted};
 pub struct LineOptions {
     stands: [bool; LineOptions::OPTIONS],
     twice: bool,
+}
+
+fn or(a: bool, b: bool) -> bool
+    ensures { λ r. ⌜ r ≡ a || b ⌝ }
+{
+    if a { true } else { b }
 }
 
 impl LineOptions {
@@ -34,7 +39,8 @@ impl LineOptions {
     pub fn add(self, setting: OptionSetting) -> Self
         ensures { λ r. ⌜ ((v : List ℕ) → r ≡ noted self (settingIn v setting)) ⌝ }
     {
-        let number = setting.number();
+        let part = setting.part();
+        let number = part.0;
         if number >= LineOptions::OPTIONS {
             return self;
         }

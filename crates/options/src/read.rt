@@ -3,12 +3,13 @@ use super::Id;
 use super::arguments::Failures;
 use super::ids::IdName;
 use super::ids::is_id;
+use super::setting::OptionSetting;
 use super::span::Span;
 use super::span::number_range;
 use super::timeout::read_timeout;
 use fault::Cause;
-use pattern::Syntax;
 use pattern::Expanded;
+use pattern::Syntax;
 use pattern::reader::read_expansions;
 use text::slice::Found;
 use text::slice::equal;
@@ -18,17 +19,6 @@ ghost use mathlib.Core.Path.{_≡_};
 ghost use mathlib.Core.Option.{some, Option·map};
 ghost use Rattle.options.specs.Read.{lastPosition, idOf, authOf, nargsOf, patternsOf, numberRange, argumentOf, optionNamed, optionOf};
 ghost use Rattle.options.specs.Contract.{valueIn, readIn};
-
-// What an option sets; the bytes of an id or of a pattern are the value in its text.
-pub enum OptionSetting {
-    SetId(Id),
-    SetAuth(bool),
-    SetTimeout(i32),
-    SetNargs(usize, usize),
-    // The first and the last position.
-    SetArgument(usize, usize),
-    SetShell,
-}
 
 // What a field's text is, as an option.
 pub enum OptionRead {

@@ -1,18 +1,16 @@
 // The options that hold one setting, each set or not, by value.
 use super::Id;
 use super::ids::IdName;
-use super::read::OptionSetting;
+use super::setting::OptionSetting;
 use super::span::Span;
 use super::timeout::Timeout;
 use question::LastAuthentication;
 use question::password::password_needed;
-ghost use Prim.Native.Nat.{ℕ};
 ghost use mathlib.Core.Path.{_≡_};
-ghost use mathlib.Core.List.{List};
 ghost use mathlib.Core.Option.{some, orElse};
 ghost use Rattle.question.specs.Password.{passwordNeeded};
 ghost use Rattle.options.specs.Options.{noOptions, over, authOr, timeoutOr};
-ghost use Rattle.options.specs.Contract.{idIn, authIn, timeoutIn, spanIn, optionsIn, idAt, settingIn, PartOf};
+ghost use Rattle.options.specs.Contract.{idIn, authIn, timeoutIn, spanIn, optionsIn, idAt, settingIn};
 
 pub enum Auth {
     Unset,
@@ -31,7 +29,7 @@ impl Auth {
         }
     }
 
-    fn of(yes: bool) -> Self
+    pub fn of(yes: bool) -> Self
         ensures { λ r. ⌜ authIn r ≡ some yes ⌝ }
     {
         if yes { Auth::Yes } else { Auth::No }
@@ -46,52 +44,6 @@ impl Auth {
             Auth::Yes => true,
             Auth::No => false,
         }
-    }
-}
-
-// Which option a setting is of, by its number, and what it sets of auth, timeout and nargs.
-pub struct Part(usize, Auth, Timeout, Span);
-
-impl OptionSetting {
-    fn part(self) -> Part
-        ensures { λ r. ⌜ ((v : List ℕ) → PartOf (settingIn v self) r) ⌝ }
-    {
-        match self {
-            OptionSetting::SetId(id) => Part(
-                id.number(),
-                Auth::Unset,
-                Timeout::Unset,
-                Span::Nothing,
-            ),
-            OptionSetting::SetAuth(yes) => Part(4, Auth::of(yes), Timeout::Unset, Span::Nothing),
-            OptionSetting::SetTimeout(m) => Part(
-                5,
-                Auth::Unset,
-                Timeout::Minutes(m),
-                Span::Nothing,
-            ),
-            OptionSetting::SetNargs(m, n) => Part(
-                6,
-                Auth::Unset,
-                Timeout::Unset,
-                Span::Between(m, n),
-            ),
-            OptionSetting::SetShell => Part(7, Auth::Unset, Timeout::Unset, Span::Nothing),
-            OptionSetting::SetArgument(_, _) => Part(
-                8,
-                Auth::Unset,
-                Timeout::Unset,
-                Span::Nothing,
-            ),
-        }
-    }
-
-    // The number of its option: the ids from 0 to 3, auth 4, timeout 5, nargs 6, patterns 7; argument patterns are 8.
-    pub fn number(self) -> usize
-        ensures { λ r. ⌜ ((v : List ℕ) → r ≡ settingIn v self .which) ⌝ }
-    {
-        let part = self.part();
-        part.0
     }
 }
 

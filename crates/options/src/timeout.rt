@@ -1,6 +1,6 @@
 // The value of a timeout: minutes, which may be below zero.
 use super::read::OptionRead;
-use super::read::OptionSetting;
+use super::setting::OptionSetting;
 use fault::Cause;
 use text::number::Number;
 use text::number::decimal;

@@ -13,6 +13,8 @@ use options::Id;
 use options::arguments::Failures;
 use options::read::OptionRead;
 use options::read::read_option;
+use options::read::value_of;
+use options::setting::OptionSetting;
 
 // What a list of arguments takes up in its buffer.
 enum Listed {
@@ -83,11 +85,10 @@ fn put_position(out: &mut [u8], start: usize, n: usize, position: usize) -> usiz
 
 // The positions that fail.
 fn put_positions(out: &mut [u8], n: usize, failures: Failures) -> usize {
-    let at = failures.at;
     let mut m = n;
     let mut i = 0;
     while i < 64 {
-        m = put_failure(out, n, m, at[i], i + 1);
+        m = put_failure(out, n, m, failures.fails_at(i), i + 1);
         i += 1;
     }
     m
@@ -129,33 +130,42 @@ fn put_pattern(
     n: usize,
     first: usize,
     last: usize,
-    pattern: &[u8],
+    value: &[u8],
     args: &[u8],
 ) -> usize {
     let word = put(out, n, b"arg ");
     let range = put_range(out, word, first, last);
     let space = put(out, range, b" ");
     let none = Failures::new();
-    put_failures(out, space, none.add(first, last, pattern, args))
+    put_failures(
+        out,
+        space,
+        none.add(value, OptionSetting::SetArgument(first, last), args),
+    )
+}
+
+fn put_setting(
+    setting: OptionSetting,
+    value: &[u8],
+    args: &[u8],
+    out: &mut [u8],
+    n: usize,
+) -> usize {
+    match setting {
+        OptionSetting::SetId(id) => put_id(out, n, id, value),
+        OptionSetting::SetAuth(yes) => put_auth(out, n, yes),
+        OptionSetting::SetTimeout(minutes) => put_timeout(out, n, minutes),
+        OptionSetting::SetNargs(first, last) => put_nargs(out, n, first, last),
+        OptionSetting::SetArgument(first, last) => put_pattern(out, n, first, last, value, args),
+        OptionSetting::SetShell => put(out, n, b"patterns"),
+    }
 }
 
 fn put_option(read: OptionRead, text: &[u8], args: &[u8], out: &mut [u8], n: usize) -> usize {
     match read {
         OptionRead::NotOption => put(out, n, b"none"),
         OptionRead::Faulty(cause) => put_fault(out, n, cause),
-        OptionRead::SetId(id, at) => put_id(out, n, id, part(text, at, text.len())),
-        OptionRead::SetAuth(yes) => put_auth(out, n, yes),
-        OptionRead::SetTimeout(minutes) => put_timeout(out, n, minutes),
-        OptionRead::SetNargs(first, last) => put_nargs(out, n, first, last),
-        OptionRead::SetArgument(first, last, at) => put_pattern(
-            out,
-            n,
-            first,
-            last,
-            part(text, at, text.len()),
-            args,
-        ),
-        OptionRead::SetShell => put(out, n, b"patterns"),
+        OptionRead::Set(setting) => put_setting(setting, value_of(text), args, out, n),
     }
 }
 

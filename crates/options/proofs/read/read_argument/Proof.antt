@@ -1,15 +1,9 @@
-use native.Mathlib.Omega.{arith}
-use mathlib.Core.Path.{_≡_}
+use borrow.Author.Needs.{needs}
 use Rattle.pattern.specs.declared.Syntax.the-variants.{Plain}
 use Rattle.pattern.proofs.WholeLaws.{told-fault, told-number}
 use Rattle.options.proofs.ReadLaws.{argument-none, argument-fault, argument-good}
-use borrow.Author.Needs.{needs}
 use Rattle.options.proofs.read.read_argument.Statement.{statement}
 use Rattle.options.proofs.read.read_argument.Tie as tie
-use Rattle.options.proofs.read.read_argument.Reads as reads
-use Rattle.options.proofs.read.read_argument.Lts as lts
-use Rattle.options.proofs.span.number_range.Reads as number-range-reads
-use Rattle.pattern.proofs.reader.read_expansions.Reads as read-expansions-reads
 
 number-range-requires : tie.Need-number-range-requires
 number-range-requires c κs = search needs

@@ -1,6 +1,6 @@
-use Rattle.options.proofs.ReadLaws.{auth-yes, auth-no, auth-bad}
 use mathlib.Core.Path.{sym, _∙_}
 use borrow.Author.Needs.{needs}
+use Rattle.options.proofs.ReadLaws.{auth-yes, auth-no, auth-bad}
 use Rattle.options.proofs.read.read_auth.Statement.{statement}
 use Rattle.options.proofs.read.read_auth.Tie as tie
 

@@ -1,6 +1,6 @@
-use Rattle.options.proofs.ReadLaws.{id-long, id-good, id-bad}
 use mathlib.Core.Path.{sym, _∙_}
 use borrow.Author.Needs.{needs}
+use Rattle.options.proofs.ReadLaws.{id-long, id-good, id-bad}
 use Rattle.options.proofs.read.read_id.Statement.{statement}
 use Rattle.options.proofs.read.read_id.Tie as tie
 

@@ -1,9 +1,9 @@
 use mathlib.Core.Path.{refl, sym, _∙_}
-use Rattle.options.proofs.ReadLaws.{Other, named-uid, named-euid, named-gid, named-egid, named-auth, named-timeout, named-nargs, named-patterns, named-not-here, named-argument, named-none}
-use Rattle.text.proofs.Slices.{starts-length}
 use mathlib.Core.List.{[], _∷_}
 use native.Mathlib.Omega.{arith}
 use borrow.Author.Needs.{needs}
+use Rattle.options.proofs.ReadLaws.{Other, named-uid, named-euid, named-gid, named-egid, named-auth, named-timeout, named-nargs, named-patterns, named-not-here, named-argument, named-none}
+use Rattle.text.proofs.Slices.{starts-length}
 use Rattle.options.proofs.read.read_named.Statement.{statement}
 use Rattle.options.proofs.read.read_named.Tie as tie
 

@@ -1,6 +1,5 @@
-use Rattle.options.proofs.ReadLaws.{nargs-bad, nargs-good}
-use mathlib.Core.Path.{sym, _∙_}
 use borrow.Author.Needs.{needs}
+use Rattle.options.proofs.ReadLaws.{nargs-bad, nargs-good}
 use Rattle.options.proofs.read.read_nargs.Statement.{statement}
 use Rattle.options.proofs.read.read_nargs.Tie as tie
 

@@ -1,9 +1,9 @@
+use mathlib.Core.Path.{sym, _∙_}
+use native.Mathlib.Omega.{arith}
+use borrow.Author.Needs.{needs}
+use lib.Seq.{length-take-le}
 use Rattle.options.proofs.ReadLaws.{option-none, option-found}
 use Rattle.text.proofs.Slices.{byte-at}
-use lib.Seq.{length-take-le}
-use native.Mathlib.Omega.{arith}
-use mathlib.Core.Path.{sym, _∙_}
-use borrow.Author.Needs.{needs}
 use Rattle.options.proofs.read.read_option.Statement.{statement}
 use Rattle.options.proofs.read.read_option.Tie as tie
 

@@ -1,6 +1,6 @@
-use Rattle.options.proofs.ReadLaws.{patterns-shell, patterns-other}
 use mathlib.Core.Path.{sym, _∙_}
 use borrow.Author.Needs.{needs}
+use Rattle.options.proofs.ReadLaws.{patterns-shell, patterns-other}
 use Rattle.options.proofs.read.read_patterns.Statement.{statement}
 use Rattle.options.proofs.read.read_patterns.Tie as tie
 

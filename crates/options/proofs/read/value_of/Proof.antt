@@ -1,8 +1,8 @@
+use mathlib.Core.Path.{sym, _∙_}
+use native.Mathlib.Omega.{arith}
+use borrow.Author.Needs.{needs}
 use Rattle.options.proofs.ReadLaws.{value-none, value-found}
 use Rattle.text.proofs.Slices.{byte-at}
-use native.Mathlib.Omega.{arith}
-use mathlib.Core.Path.{sym, _∙_}
-use borrow.Author.Needs.{needs}
 use Rattle.options.proofs.read.value_of.Statement.{statement}
 use Rattle.options.proofs.read.value_of.Tie as tie
 

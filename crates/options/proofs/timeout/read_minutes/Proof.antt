@@ -1,8 +1,8 @@
-use Rattle.options.proofs.TimeoutLaws.{minutes-bad, minutes-over, minutes-in}
-use lib.IntN.{pos, negℤ}
 use mathlib.Core.Bool.{cond}
 use mathlib.Core.Path.{sym, _∙_}
 use borrow.Author.Needs.{needs}
+use lib.IntN.{pos, negℤ}
+use Rattle.options.proofs.TimeoutLaws.{minutes-bad, minutes-over, minutes-in}
 use Rattle.options.proofs.timeout.read_minutes.Statement.{statement}
 use Rattle.options.proofs.timeout.read_minutes.Tie as tie
 

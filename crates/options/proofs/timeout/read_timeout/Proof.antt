@@ -1,8 +1,8 @@
+use mathlib.Core.Path.{sym, _∙_}
+use native.Mathlib.Omega.{arith}
+use borrow.Author.Needs.{needs}
 use Rattle.options.proofs.TimeoutLaws.{timeout-minus, timeout-plain}
 use Rattle.text.proofs.Slices.{starts-length}
-use native.Mathlib.Omega.{arith}
-use mathlib.Core.Path.{sym, _∙_}
-use borrow.Author.Needs.{needs}
 use Rattle.options.proofs.timeout.read_timeout.Statement.{statement}
 use Rattle.options.proofs.timeout.read_timeout.Tie as tie
 

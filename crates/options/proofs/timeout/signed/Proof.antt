@@ -1,6 +1,6 @@
-use Rattle.options.proofs.TimeoutLaws.{below-fits, signed-below, signed-above}
 use native.Mathlib.Omega.{arith}
 use borrow.Author.Needs.{needs}
+use Rattle.options.proofs.TimeoutLaws.{below-fits, signed-below, signed-above}
 use Rattle.options.proofs.timeout.signed.Statement.{statement}
 use Rattle.options.proofs.timeout.signed.Tie as tie
 

@@ -6,16 +6,16 @@ use Rattle.probe.proofs.options_words.put_positions.Statement.{statemen
 use Rattle.probe.proofs.options_words.put_positions.Tie as tie
 
 abbrev Inv-loop : tie.InvT-loop
-Inv-loop out₀ n at m₀ i₀ out m i = (i ≤ 64) × (length out ≡ length out₀)
+Inv-loop out₀ n failures m₀ i₀ out m i = (i ≤ 64) × (length out ≡ length out₀)
 
 abbrev μ-loop : tie.MeasureT-loop
-μ-loop out₀ n at m₀ i₀ out m i = 64 - i
+μ-loop out₀ n failures m₀ i₀ out m i = 64 - i
 
 loop-holds : tie.Need-loop-holds Inv-loop μ-loop
 loop-holds c = search needs
 
-array-read-put-failure : tie.Need-array-read-put-failure Inv-loop μ-loop
-array-read-put-failure c = search needs
+fails-at-requires : tie.Need-fails-at-requires Inv-loop μ-loop
+fails-at-requires c κs = search needs
 
 add-put-failure : tie.Need-add-put-failure Inv-loop μ-loop
 add-put-failure c = search needs
@@ -45,7 +45,7 @@ put-positions-spec =
     Inv-loop
     μ-loop
     loop-holds
-    array-read-put-failure
+    fails-at-requires
     add-put-failure
     put-failure-requires
     add-i

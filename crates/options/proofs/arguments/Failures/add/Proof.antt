@@ -1,19 +1,18 @@
+use mathlib.Core.List.{List, [], _∷_}
+use mathlib.Core.Bool.{Bool}
+use mathlib.Core.Path.{_≡_, refl}
+use Prim.Native.Nat.{ℕ}
 use borrow.Author.Needs.{needs}
 use Rattle.question.specs.Strings.{stringsIn}
 use Rattle.options.proofs.ArgumentLaws.{failures-of}
-use Rattle.options.proofs.read.OptionSetting.{the-type}
+use Rattle.options.proofs.setting.OptionSetting.{the-type}
 use Rattle.options.specs.Contract.{failuresAfter}
-use Rattle.options.specs.declared.read.OptionSetting.the-variants.{SetId, SetAuth, SetTimeout, SetNargs, SetArgument, SetShell}
-use Rattle.options.specs.declared.read.OptionSetting.{OptionSetting}
+use Rattle.options.specs.declared.setting.OptionSetting.the-variants.{SetId, SetAuth, SetTimeout, SetNargs, SetArgument, SetShell}
+use Rattle.options.specs.declared.setting.OptionSetting.{OptionSetting}
+use Rattle.options.proofs.arguments.Failures.add.Statement.{statement}
 use denote.Enum.Declared.{tagOf}
 use types.Run.{OneOf, miss}
-use Prim.Native.Nat.{ℕ}
-use mathlib.Core.List.{List, [], _∷_}
-use mathlib.Core.Bool.{Bool}
-use mathlib.Core.Path.{_≡_, refl, _∙_}
-use Rattle.options.proofs.arguments.Failures.add.Statement.{statement}
 use Rattle.options.proofs.arguments.Failures.add.Tie as tie
-use Rattle.options.proofs.arguments.Failures.add.Reads as reads
 
 -- a setting of another tag is no argument pattern
 none-of : (v : List ℕ) (s : OptionSetting) (xs : List (List ℕ)) (fs : List Bool) → OneOf (0 ∷ 1 ∷ 2 ∷ 3 ∷ 5 ∷ []) (tagOf the-type s) → fs ≡ failuresAfter v s xs fs

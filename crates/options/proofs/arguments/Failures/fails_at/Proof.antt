@@ -2,11 +2,10 @@ use mathlib.Core.Bool.{false}
 use mathlib.Core.Path.{_≡_, sym}
 use Prim.Native.Nat.{_≤_}
 use native.Mathlib.Omega.{arith}
-use lib.ListN.{List·getD-eq-default, length}
 use borrow.Author.Needs.{needs}
+use lib.ListN.{List·getD-eq-default, length}
 use Rattle.options.proofs.arguments.Failures.fails_at.Statement.{statement}
 use Rattle.options.proofs.arguments.Failures.fails_at.Tie as tie
-use Rattle.options.proofs.arguments.Failures.fails_at.Reads as reads
 
 array-read-result : tie.Need-array-read-result
 array-read-result c = search needs

@@ -1,7 +1,6 @@
 use Rattle.options.proofs.ArgumentLaws.{failures-none}
 use Rattle.options.proofs.arguments.Failures.new.Statement.{statement}
 use Rattle.options.proofs.arguments.Failures.new.Tie as tie
-use Rattle.options.proofs.arguments.Failures.new.Reads as reads
 
 returns : tie.Need-returns
 returns c = failures-none

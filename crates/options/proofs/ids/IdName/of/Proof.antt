@@ -1,9 +1,9 @@
-use Rattle.options.proofs.IdLaws.{copied, held, unheld}
-use lib.ListN.{length, take}
-use borrow.Author.Needs.{needs}
-use native.Mathlib.Omega.{arith}
-use Prim.Native.Nat.{_<_, _-_, _≤_}
 use mathlib.Core.Path.{_≡_, refl}
+use Prim.Native.Nat.{_<_, _-_, _≤_}
+use native.Mathlib.Omega.{arith}
+use borrow.Author.Needs.{needs}
+use lib.ListN.{length, take}
+use Rattle.options.proofs.IdLaws.{copied, held, unheld}
 use Rattle.options.proofs.ids.IdName.of.Statement.{statement}
 use Rattle.options.proofs.ids.IdName.of.Tie as tie
 

@@ -1,17 +1,16 @@
-use Rattle.options.proofs.LineLaws.{noted-none, noted-one}
-use Rattle.options.specs.Contract.{settingIn}
-use lib.ListN.{length}
 use mathlib.Core.Path.{_≡_}
 use borrow.Author.Needs.{needs}
+use lib.ListN.{length}
+use Rattle.options.proofs.LineLaws.{noted-none, noted-one}
+use Rattle.options.specs.Contract.{settingIn}
 use Rattle.options.proofs.line.LineOptions.add.Statement.{statement}
 use Rattle.options.proofs.line.LineOptions.add.Tie as tie
-use Rattle.options.proofs.line.LineOptions.add.Reads as reads
 
-number-requires : tie.Need-number-requires
-number-requires c κs = search needs
+part-requires : tie.Need-part-requires
+part-requires c κs = search needs
 
 returns : tie.Need-returns
-returns c = λ v. let a = c .before .before .args in let l : length (a .self .stands) ≡ 8 = search needs in noted-none (a .self) (settingIn v (a .setting)) (c .before .number .ensures v) l (c .if1 .taken)
+returns c = λ v. let a = c .before .before .args in let l : length (a .self .stands) ≡ 8 = search needs in noted-none (a .self) (settingIn v (a .setting)) (c .before .part .ensures v .which) l (c .if1 .taken)
 
 array-read-again : tie.Need-array-read-again
 array-read-again c = search needs
@@ -23,9 +22,9 @@ or-requires : tie.Need-or-requires
 or-requires c κs = search needs
 
 returns-2 : tie.Need-returns-2
-returns-2 c = λ v. let a = c .before .before .before .before .args in noted-one (a .self) (settingIn v (a .setting)) (c .before .before .before .number .ensures v) (c .or .ensures)
+returns-2 c = λ v. let a = c .before .before .before .before .args in noted-one (a .self) (settingIn v (a .setting)) (c .before .before .before .part .ensures v .which) (c .or .ensures)
 
 pub add-spec : {M : Type 1} → statement M
 add-spec =
     tie.close
-    (tie.spec number-requires returns array-read-again array-write-stands or-requires returns-2)
+    (tie.spec part-requires returns array-read-again array-write-stands or-requires returns-2)

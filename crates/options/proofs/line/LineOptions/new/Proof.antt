@@ -1,10 +1,9 @@
+use mathlib.Core.Path.{refl}
 use Rattle.options.specs.Contract.{standing, lineOf}
 use Rattle.options.specs.Read.{twice}
 use Rattle.text.specs.Lists.{any}
-use mathlib.Core.Path.{refl}
 use Rattle.options.proofs.line.LineOptions.new.Statement.{statement}
 use Rattle.options.proofs.line.LineOptions.new.Tie as tie
-use Rattle.options.proofs.line.LineOptions.new.Reads as reads
 
 returns : tie.Need-returns
 unfolding lineOf standing any twice

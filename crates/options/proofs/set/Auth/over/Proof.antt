@@ -2,7 +2,6 @@ use mathlib.Core.Option.{orElse}
 use borrow.Author.Needs.{needs}
 use Rattle.options.proofs.set.Auth.over.Statement.{statement}
 use Rattle.options.proofs.set.Auth.over.Tie as tie
-use Rattle.options.proofs.set.Auth.over.Reads as reads
 
 enum-told : tie.Need-enum-told
 enum-told c = search needs

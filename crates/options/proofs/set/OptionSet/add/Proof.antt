@@ -1,7 +1,7 @@
-use Rattle.options.specs.Contract.{optionsIn}
-use Rattle.options.specs.Options.{over}
 use mathlib.Core.Path.{ap, _∙_}
 use borrow.Author.Needs.{needs}
+use Rattle.options.specs.Contract.{optionsIn}
+use Rattle.options.specs.Options.{over}
 use Rattle.options.proofs.set.OptionSet.add.Statement.{statement}
 use Rattle.options.proofs.set.OptionSet.add.Tie as tie
 

@@ -1,8 +1,7 @@
-use Rattle.options.specs.Contract.{optionsIn}
 use mathlib.Core.Path.{refl}
+use Rattle.options.specs.Contract.{optionsIn}
 use Rattle.options.proofs.set.OptionSet.auth.Statement.{statement}
 use Rattle.options.proofs.set.OptionSet.auth.Tie as tie
-use Rattle.options.proofs.set.OptionSet.auth.Reads as reads
 
 returns : tie.Need-returns
 unfolding optionsIn

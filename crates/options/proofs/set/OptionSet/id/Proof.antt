@@ -1,10 +1,9 @@
-use Rattle.options.proofs.SetLaws.{id-of}
-use Rattle.options.specs.Contract.{optionsIn}
 use mathlib.Core.Path.{refl}
 use borrow.Author.Needs.{needs}
+use Rattle.options.proofs.SetLaws.{id-of}
+use Rattle.options.specs.Contract.{optionsIn}
 use Rattle.options.proofs.set.OptionSet.id.Statement.{statement}
 use Rattle.options.proofs.set.OptionSet.id.Tie as tie
-use Rattle.options.proofs.set.OptionSet.id.Reads as reads
 
 enum-told : tie.Need-enum-told
 enum-told c = search needs

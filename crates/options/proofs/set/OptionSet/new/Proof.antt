@@ -1,9 +1,8 @@
+use borrow.Author.Needs.{needs}
 use Rattle.options.specs.Contract.{optionsIn}
 use Rattle.options.specs.Options.{noOptions}
-use borrow.Author.Needs.{needs}
 use Rattle.options.proofs.set.OptionSet.new.Statement.{statement}
 use Rattle.options.proofs.set.OptionSet.new.Tie as tie
-use Rattle.options.proofs.set.OptionSet.new.Reads as reads
 
 new-requires : tie.Need-new-requires
 new-requires c κs = search needs

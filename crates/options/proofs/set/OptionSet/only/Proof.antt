@@ -1,6 +1,6 @@
-use Rattle.options.proofs.SetLaws.{set-only}
 use mathlib.Core.Path.{refl}
 use borrow.Author.Needs.{needs}
+use Rattle.options.proofs.SetLaws.{set-only}
 use Rattle.options.proofs.set.OptionSet.only.Statement.{statement}
 use Rattle.options.proofs.set.OptionSet.only.Tie as tie
 

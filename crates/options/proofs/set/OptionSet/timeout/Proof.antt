@@ -1,8 +1,7 @@
-use Rattle.options.specs.Contract.{optionsIn}
 use mathlib.Core.Path.{refl}
+use Rattle.options.specs.Contract.{optionsIn}
 use Rattle.options.proofs.set.OptionSet.timeout.Statement.{statement}
 use Rattle.options.proofs.set.OptionSet.timeout.Tie as tie
-use Rattle.options.proofs.set.OptionSet.timeout.Reads as reads
 
 returns : tie.Need-returns
 unfolding optionsIn

@@ -1,13 +1,13 @@
-use Rattle.options.specs.Read.{idLimit}
-use Rattle.options.proofs.SetLaws.{part-of, part-id}
-use Rattle.options.specs.Options.{noOptions}
-use mir.ValLaws.{toZ-ofZ}
-use lib.ListN.{take}
 use mathlib.Core.Option.{some}
 use mathlib.Core.Path.{refl, ap}
 use borrow.Author.Needs.{needs}
-use Rattle.options.proofs.read.OptionSetting.part.Statement.{statement}
-use Rattle.options.proofs.read.OptionSetting.part.Tie as tie
+use lib.ListN.{take}
+use Rattle.options.specs.Read.{idLimit}
+use Rattle.options.proofs.SetLaws.{part-of, part-id}
+use Rattle.options.specs.Options.{noOptions}
+use Rattle.options.proofs.setting.OptionSetting.part.Statement.{statement}
+use mir.ValLaws.{toZ-ofZ}
+use Rattle.options.proofs.setting.OptionSetting.part.Tie as tie
 
 enum-known-self : tie.Need-enum-known-self
 enum-known-self c = search needs
