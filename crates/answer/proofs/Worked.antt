@@ -3,6 +3,7 @@ use Prim.Native.Nat.{ℕ, _+_}
 use mathlib.Core.Path.{_≡_, refl}
 use mathlib.Core.Bool.{Bool, true, false}
 use mathlib.Core.List.{List, [], _∷_, _++_, map}
+use mathlib.Core.Option.{bind, orElse}
 use lib.IntN.{ℤ, pos, negsuc}
 use lib.ListN.{length, take, drop, replicate}
 use Rattle.text.specs.Bytes.{bytes}
@@ -37,19 +38,19 @@ use Rattle.pattern.specs.Match.{signOf, items, escapedItems, behindSet, tails, 
 use Rattle.pattern.specs.Set.{bodyOf, behind, reach, ranges, members, goodSet, listed, inSet}
 use Rattle.pattern.specs.Tree.{depth, number, joined as pattern-Tree-joined, expansions, fits, markOf as pattern-Tree-markOf, firstPiece, readPattern, readList, patternOf, listOf, treeOf}
 use Rattle.question.specs.Password.{fresh, passwordNeeded}
-use Rattle.question.specs.Question.{commandByte, goodComponent, goodCommand, goodName, goodGroups, goodArgument, goodArguments, goodQuestion, questionOf}
-use Rattle.question.specs.Strings.{stringsOf, stringsIn, untilZero}
+use Rattle.question.specs.Question.{goodComponent, goodCommand, goodName, goodArgument, goodStrings, goodQuestion, questionOf}
+use Rattle.question.specs.Strings.{stringsOf}
 use Rattle.reader.specs.Colon.{defineName, defineText, defineLine, globalLine, operatorOf, ifLine, colonWord}
 use Rattle.reader.specs.Read.{entryLine, fieldsRead, lineCause, lineRead}
 use Rattle.reader.specs.State.{start as reader-State-start, withDefinition, withSettings, withEntry}
-use Rattle.text.specs.Class.{blank, letter, digit, wordByte, nameByte, printable, visible, classOf}
-use Rattle.text.specs.Lists.{all as text-Lists-all, any as text-Lists-any, count, firstFault, has, splitAt}
-use Rattle.text.specs.Number.{digits, numberOf as text-Number-numberOf}
+use Rattle.text.specs.Class.{blank, letter, digit, wordByte, nameByte, printable, commandByte, classOf}
+use Rattle.text.specs.Lists.{all as text-Lists-all, any as text-Lists-any, count, has, splitAt}
+use Rattle.text.specs.Number.{digits, decimalOf, numberOf as text-Number-numberOf}
 use Rattle.text.specs.Parts.{partAt}
-use Rattle.text.specs.Slice.{same, startsWith, headIs, findPair, findByte}
+use Rattle.text.specs.Slice.{same, startsWith, headIs, findPair}
 use Rattle.times.specs.Clock.{hourOf, minuteOf, clockOf}
 use Rattle.times.specs.Day.{dayNames, lowerOf, shortens, dayAmong, dayOf}
-use Rattle.times.specs.Item.{compared, rangeOf as times-Item-rangeOf, spanOf, itemOf, onDay, inSpan, itemMatches, itemAnswer}
+use Rattle.times.specs.Item.{compared, clockRange, periodOf, itemOf, onDay, inPeriod, itemMatches}
 use Rattle.times.specs.Rule.{rightmost, timesAccept, marked as times-Rule-marked, unmarked, markedAll}
 use Rattle.variables.specs.Scope.{lookup, define, tooMany, nameStart, isName, builtIn, textOf}
 use Rattle.variables.specs.Substitute.{quotingAfter, stays, refers, word as variables-Substitute-word, known, closed, reference, pieces, joined as variables-Substitute-joined, joinedUpToBad, substituted, fieldText}
@@ -137,5 +138,5 @@ unfolding table buffer
 given c = answerOf (take (c .cut) table) (c .asked) buffer
 
 pub worked : map given cases ≡ map (λ c. c .expected) cases
-unfolding table buffer asks ago filled nothing clock clockSet log logged whole cutAt cases given toldOf isDecision decidingLine strings overlaid grantedBy answer-Meaning-step answer-Meaning-verdict answerOf entry-Entry-fieldsFrom completed entryOf starred pathFor conditionsAccept noField followed expanded pathOf hasPair pairOf commandOf fullPathOf prefixed unnegated userMarks timeMarks otherOf pieceOf userApplies groupApplies decidedBy usersAccept verdictOn verdictOf fault-Fault-numberOf readAll run outcome line-Joined-markOf modeAfter joinMarks modeJoined needsIndent startAt line-Joined-given line-Joined-after lastMarks bareAtEnd marks endState kindOf lines endsAt cutShort accepted refusedFrom refusedByte openQuote line-Scan-fieldsFrom line-Scan-verdict scanned passes argumentsFrom argumentsPass inForce failuresFrom failures options-Arguments-marked options-Arguments-joined noOptions over nargsAllow options-Read-rangeOf nameOf isId idOf authOf timeoutOf argumentOf settingOf optionOf only optionsOf argumentsOf hasShell twice pattern-Alternative-next partsAt partsOf goodPart alternativeOf signOf items escapedItems behindSet tails matchItems matches matchesSome bodyOf behind reach ranges members goodSet listed inSet depth number pattern-Tree-joined expansions fits pattern-Tree-markOf firstPiece readPattern readList patternOf listOf treeOf fresh passwordNeeded commandByte goodComponent goodCommand goodName goodGroups goodArgument goodArguments goodQuestion questionOf stringsOf stringsIn untilZero defineName defineText defineLine globalLine operatorOf ifLine colonWord entryLine fieldsRead lineCause lineRead reader-State-start withDefinition withSettings withEntry blank letter digit wordByte nameByte printable visible classOf text-Lists-all text-Lists-any count firstFault has splitAt digits text-Number-numberOf partAt same startsWith headIs findPair findByte hourOf minuteOf clockOf dayNames lowerOf shortens dayAmong dayOf compared times-Item-rangeOf spanOf itemOf onDay inSpan itemMatches itemAnswer rightmost timesAccept times-Rule-marked unmarked markedAll lookup define tooMany nameStart isName builtIn textOf quotingAfter stays refers variables-Substitute-word known closed reference pieces variables-Substitute-joined joinedUpToBad substituted fieldText
+unfolding table buffer asks ago filled nothing clock clockSet log logged whole cutAt cases given toldOf isDecision decidingLine strings overlaid grantedBy answer-Meaning-step answer-Meaning-verdict answerOf entry-Entry-fieldsFrom completed entryOf starred pathFor conditionsAccept noField followed expanded pathOf hasPair pairOf commandOf fullPathOf prefixed unnegated userMarks timeMarks otherOf pieceOf userApplies groupApplies decidedBy usersAccept verdictOn verdictOf fault-Fault-numberOf readAll run outcome line-Joined-markOf modeAfter joinMarks modeJoined needsIndent startAt line-Joined-given line-Joined-after lastMarks bareAtEnd marks endState kindOf lines endsAt cutShort accepted refusedFrom refusedByte openQuote line-Scan-fieldsFrom line-Scan-verdict scanned passes argumentsFrom argumentsPass inForce failuresFrom failures options-Arguments-marked options-Arguments-joined noOptions over nargsAllow options-Read-rangeOf nameOf isId idOf authOf timeoutOf argumentOf settingOf optionOf only optionsOf argumentsOf hasShell twice pattern-Alternative-next partsAt partsOf goodPart alternativeOf signOf items escapedItems behindSet tails matchItems matches matchesSome bodyOf behind reach ranges members goodSet listed inSet depth number pattern-Tree-joined expansions fits pattern-Tree-markOf firstPiece readPattern readList patternOf listOf treeOf fresh passwordNeeded commandByte goodComponent goodCommand goodName goodArgument goodStrings goodQuestion questionOf stringsOf bind orElse defineName defineText defineLine globalLine operatorOf ifLine colonWord entryLine fieldsRead lineCause lineRead reader-State-start withDefinition withSettings withEntry blank letter digit wordByte nameByte printable classOf text-Lists-all text-Lists-any count has splitAt digits decimalOf text-Number-numberOf partAt same startsWith headIs findPair hourOf minuteOf clockOf dayNames lowerOf shortens dayAmong dayOf compared clockRange periodOf itemOf onDay inPeriod itemMatches rightmost timesAccept times-Rule-marked unmarked markedAll lookup define tooMany nameStart isName builtIn textOf quotingAfter stays refers variables-Substitute-word known closed reference pieces variables-Substitute-joined joinedUpToBad substituted fieldText
 worked = refl
