@@ -2,7 +2,6 @@
 use Prim.Native.Nat.{ℕ}
 use mathlib.Core.Bool.{Bool, not, _&&_}
 use mathlib.Core.List.{List, [], _∷_}
-use mathlib.Core.Option.{Option}
 use Rattle.text.specs.Lists.{null}
 use Rattle.fault.specs.Fault.{Reading, value, andThen, require}
 use Rattle.fault.specs.declared.Cause.{Cause}
@@ -12,11 +11,11 @@ use Rattle.variables.specs.Substitute.{fieldText}
 use Rattle.options.specs.Read.{twice}
 use Rattle.condition.specs.Users.{usersAccept}
 use Rattle.condition.specs.Times.{timesAccept}
-use Rattle.condition.specs.Condition.{Sort}
+use Rattle.condition.specs.Condition.{Judge}
 use Rattle.entry.specs.Field.{Entry, noField, followed, Position, first, FieldRead, fieldOf}
 
 -- "fields left to right; inside a field: bad `$`, length after substitution", then the rest of the field
-unfoldable pub fieldsFrom : (Sort → List ℕ → Option Bool) → Scope → Position → List (List ℕ) → Reading Cause Entry
+unfoldable pub fieldsFrom : Judge → Scope → Position → List (List ℕ) → Reading Cause Entry
 fieldsFrom judge s p [] = value noField
 fieldsFrom judge s p (f ∷ fs) =
     andThen (fieldText s f) (λ t.
@@ -32,7 +31,7 @@ completed e =
     (value e))
 
 -- an entry, with a judge of its conditions' expansions
-unfoldable pub entryOf : (Sort → List ℕ → Option Bool) → Scope → List (List ℕ) → Reading Cause Entry
+unfoldable pub entryOf : Judge → Scope → List (List ℕ) → Reading Cause Entry
 entryOf judge s fs = andThen (fieldsFrom judge s first fs) completed
 
 -- users and times accept

@@ -17,7 +17,7 @@ use Rattle.pattern.specs.declared.Syntax.the-variants.{Plain}
 use Rattle.pattern.specs.Tree.{expanded}
 use Rattle.options.specs.Read.{Setting, optionOf}
 use Rattle.condition.specs.Rightmost.{Judged}
-use Rattle.condition.specs.Condition.{Sort, user, group, time, Condition, conditionOf}
+use Rattle.condition.specs.Condition.{Sort, user, group, time, Condition, conditionOf, Judge}
 
 -- a command pattern's brace-free expansions, with its path
 pub record Pair : Type 0 where
@@ -97,15 +97,15 @@ unfoldable pub pathField : List (List ℕ) → List ℕ → Reading Cause FieldR
 pathField es t = require (not (hasPair t)) LatePair (andThen (fullPath t) (λ p. value (fieldRead (aPair es p) rest)))
 
 -- an option, in which `::` is the last fault that is looked for; or else a condition
-abbrev pub optionOr : (Sort → List ℕ → Option Bool) → List ℕ → Option (Reading Cause Setting) → Reading Cause FieldRead
+abbrev pub optionOr : Judge → List ℕ → Option (Reading Cause Setting) → Reading Cause FieldRead
 optionOr judge t (some r) = andThen r (λ s. require (not (hasPair t)) LatePair (value (fieldRead (entry [] [] [] (s ∷ [])) rest)))
 optionOr judge t none = andThen (conditionOf judge t) (λ c. value (fieldRead (conditionPart (c .sort) (c .alternatives)) rest))
 
-unfoldable pub otherOf : (Sort → List ℕ → Option Bool) → List ℕ → Reading Cause FieldRead
+unfoldable pub otherOf : Judge → List ℕ → Reading Cause FieldRead
 otherOf judge t = optionOr judge t (optionOf false t)
 
 -- "`CmdPat FullPath` and the other fields, or one or more leading `CmdPat::FullPath` fields": as long as all fields so far hold `::`, a field with `::` is a pair
-unfoldable pub fieldOf : (Sort → List ℕ → Option Bool) → Position → List ℕ → Reading Cause FieldRead
+unfoldable pub fieldOf : Judge → Position → List ℕ → Reading Cause FieldRead
 fieldOf judge first t = cond (hasPair t) (pairOf t) (commandOf t)
 fieldOf judge (second es) t = pathField es t
 fieldOf judge pairs t = cond (hasPair t) (pairOf t) (otherOf judge t)

@@ -13,7 +13,7 @@ use Rattle.fault.specs.Fault.{Reading, fault, value, readAll}
 use Rattle.fault.proofs.Readings.{never, same-value, and-then, required}
 use Rattle.line.specs.declared.kind.LineKind.{LineKind}
 use Rattle.line.specs.Line.{Line}
-use Rattle.line.specs.Kind.{kindOf}
+use Rattle.line.specs.Kind.{kindOfLine}
 use Rattle.question.specs.Question.{Question}
 use Rattle.variables.specs.Scope.{Definition, definition}
 use Rattle.variables.specs.Define.{defineName, defineText, defineIn}
@@ -24,9 +24,9 @@ use Rattle.entry.specs.Field.{Entry}
 use Rattle.entry.specs.Verdict.{Verdict, verdictOf}
 use Rattle.reader.specs.State.{State, decidedAt, scopeOf, withDefinition, withSettings, withEntry}
 use Rattle.reader.specs.Colon.{defined, textAfter, defineLine, globalField, globalLine, operatorOf, operatorHolds, restIf, rightAfter, operatorAfter, ifLine, colonWord}
-use Rattle.reader.specs.Read.{judgeFor, entryLine, byKind, fieldsRead, ifDepth, scannedRead, lineRead}
+use Rattle.reader.specs.Read.{judgeFor, entryLine, byKind, fieldsRead, ifDepth, lineRead}
 use Rattle.line.specs.declared.kind.LineKind.the-variants.{NoField, Colon, Entry as EntryKind}
-use Rattle.line.specs.Scan.{Scanned, scanned, fault as scanFault, fields}
+use Rattle.line.specs.Scan.{scanned}
 
 -- what a control line with this number makes of the state s: it stays, has one definition more, the options of a `:global` line, or one entry more
 pub data Change (q : Question) (line : ℕ) (s t : State) : Type 0 where
@@ -118,16 +118,12 @@ module _ (q : Question) (line : ℕ) (s t : State) where
 
   by-fields : (depth : ℕ) (fs : List (List ℕ)) → fieldsRead depth q line s fs ≡ value t → Change q line s t
   unfolding fieldsRead
-  by-fields zero fs e = by-kind none tt fs (kindOf fs) e
-  by-fields (suc depth) fs e = by-kind (some (λ r. fieldsRead depth q line s r)) (λ r x. by-fields depth r x) fs (kindOf fs) e
+  by-fields zero fs e = by-kind none tt fs (kindOfLine fs) e
+  by-fields (suc depth) fs e = by-kind (some (λ r. fieldsRead depth q line s r)) (λ r x. by-fields depth r x) fs (kindOfLine fs) e
 
 pub line-change : (q : Question) (s t : State) (l : Line) → lineRead q s l ≡ value t → Change q (l .number) s t
 unfolding lineRead
-line-change q s t l e = by (scanned (l .bytes)) e
-  where
-    by : (x : Scanned) → scannedRead q (l .number) s x ≡ value t → Change q (l .number) s t
-    by (scanFault f) x = never x
-    by (fields fs) x = by-fields q (l .number) s t ifDepth fs x
+line-change q s t l e = let u = and-then (scanned (l .bytes)) _ t e in by-fields q (l .number) s t ifDepth (u .0) (u .2)
 
 -- a line leaves the decision as it was, or makes the first one, with its own number
 pub record Keeps (line : ℕ) (s t : State) : Type 0 where

@@ -19,7 +19,7 @@ use Rattle.variables.specs.Scope.{Scope}
 use Rattle.variables.specs.Substitute.{fieldText}
 use Rattle.options.specs.Read.{Setting, optionOf, twice}
 use Rattle.condition.specs.Rightmost.{Judged}
-use Rattle.condition.specs.Condition.{Sort, user, group, time, conditionOf}
+use Rattle.condition.specs.Condition.{Sort, user, group, time, conditionOf, Judge}
 use Rattle.entry.specs.Field.{Entry, FieldRead, fieldRead, conditionPart, noField, followed, Position, first, pairs, rest, second, fullPath, hasPair, pairAt, pairOf, commandOf, pathField, optionOr, otherOf, fieldOf}
 use Rattle.entry.specs.Entry.{fieldsFrom, completed, entryOf}
 use Rattle.reader.proofs.ReadLaws.{sets}
@@ -49,7 +49,7 @@ short-part user xs = tt
 short-part group xs = tt
 short-part time xs = tt
 
-module _ (judge : Sort → List ℕ → Option Bool) where
+module _ (judge : Judge) where
   short-other : (t : List ℕ) → Gives ShortField (otherOf judge t)
   unfolding otherOf
   short-other t = by (optionOf false t) (short-option false t)

@@ -19,7 +19,8 @@ use Rattle.options.specs.Options.{Options, noOptions, over, authOr, timeoutOr, 
 use Rattle.options.specs.Arguments.{ArgumentPattern, argumentsPass, inForce}
 use Rattle.options.specs.Read.{optionsOf, argumentsOf}
 use Rattle.entry.specs.Field.{Entry, pairs}
-use Rattle.entry.specs.Entry.{pathFor, conditionsAccept}
+use Rattle.entry.specs.Entry.{conditionsAccept}
+use Rattle.entry.specs.Path.{pathFor}
 use Rattle.entry.specs.Verdict.{Verdict, permit, password, stoppedByNargs, stoppedByArgument, stoppedByPath, verdictOn, verdictIf, verdictOf}
 use Rattle.reader.specs.State.{State, Decision, decidedAt, start, scopeOf, withDefinition, withSettings, withEntry}
 use Rattle.reader.specs.Colon.{globalField}

@@ -2,25 +2,23 @@
 use Prim.Native.Nat.{ℕ, zero, suc}
 use mathlib.Core.List.{List, [], _∷_}
 use mathlib.Core.Option.{Option, none, some}
-use Rattle.fault.specs.Fault.{Reading, fault, value, andThen, require}
+use Rattle.fault.specs.Fault.{Reading, value, andThen, require}
 use Rattle.fault.specs.declared.Cause.{Cause}
-use Rattle.fault.specs.declared.Cause.the-variants.{LineLength, Indent, OpenQuote, FieldCount, EntryTooEarly}
-use Rattle.line.specs.declared.scan.LineFault.{LineFault}
-use Rattle.line.specs.declared.scan.LineFault.the-variants.{Long as LongLine, Indent as BadIndent, Quote as BadQuote, Fields as ManyFields}
+use Rattle.fault.specs.declared.Cause.the-variants.{EntryTooEarly}
 use Rattle.line.specs.declared.kind.LineKind.{LineKind}
 use Rattle.line.specs.declared.kind.LineKind.the-variants.{NoField, Colon as ColonKind, Entry as EntryKind}
 use Rattle.line.specs.Line.{Line}
-use Rattle.line.specs.Scan.{Scanned, scanned, fault as scanFault, fields}
-use Rattle.line.specs.Kind.{kindOf}
+use Rattle.line.specs.Scan.{scanned}
+use Rattle.line.specs.Kind.{kindOfLine}
 use Rattle.question.specs.Question.{Question}
 use Rattle.variables.specs.Substitute.{fieldText}
-use Rattle.condition.specs.Condition.{Sort, judgeOf}
+use Rattle.condition.specs.Condition.{Judge, judgeOf}
 use Rattle.entry.specs.Entry.{entryOf}
 use Rattle.reader.specs.State.{State, scopeOf, withEntry}
 use Rattle.reader.specs.Colon.{colonWord}
 
 -- the judge of a question's caller
-abbrev pub judgeFor : Question → Sort → List ℕ → Option Bool
+abbrev pub judgeFor : Question → Judge
 judgeFor q = judgeOf (q .user) (q .groups) (q .host) (q .minute)
 
 -- an entry met before `patterns=shell` is a fault ahead of any in its fields
@@ -40,25 +38,13 @@ byKind q line deeper s fs EntryKind = entryLine q line s fs
 
 -- the fields of a control line, with the depth left for `:if`
 unfoldable pub fieldsRead : ℕ → Question → ℕ → State → List (List ℕ) → Reading Cause State
-fieldsRead zero q line s fs = byKind q line none s fs (kindOf fs)
-fieldsRead (suc d) q line s fs = byKind q line (some (λ rest. fieldsRead d q line s rest)) s fs (kindOf fs)
-
--- the cause of a fault found before fields are looked at
-unfoldable pub lineCause : LineFault → Cause
-lineCause LongLine = LineLength
-lineCause BadIndent = Indent
-lineCause BadQuote = OpenQuote
-lineCause ManyFields = FieldCount
+fieldsRead zero q line s fs = byKind q line none s fs (kindOfLine fs)
+fieldsRead (suc d) q line s fs = byKind q line (some (λ rest. fieldsRead d q line s rest)) s fs (kindOfLine fs)
 
 -- 01: another `:if` "to a depth of 4"
 abbrev pub ifDepth : ℕ
 ifDepth = 4
 
--- a line that could not be parted, or its fields
-abbrev pub scannedRead : Question → ℕ → State → Scanned → Reading Cause State
-scannedRead q line s (scanFault f) = fault (lineCause f)
-scannedRead q line s (fields fs) = fieldsRead ifDepth q line s fs
-
--- a control line: joined length, indents, quotes, number of fields, then fields left to right, then the whole line
+-- a control line: "joined length, indents, quotes, number of fields, then fields left to right", then the whole line
 unfoldable pub lineRead : Question → State → Line → Reading Cause State
-lineRead q s l = scannedRead q (l .number) s (scanned (l .bytes))
+lineRead q s l = andThen (scanned (l .bytes)) (fieldsRead ifDepth q (l .number) s)
