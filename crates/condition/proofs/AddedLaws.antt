@@ -5,7 +5,7 @@ use mathlib.Core.List.{List, [], _∷_}
 use mathlib.Core.Option.{Option, none, some}
 use Prim.Native.Nat.{ℕ, _+_, _≤_, _<_}
 use lib.ListN.{length, take, drop, drop-of-length-le}
-use Rattle.text.specs.Buffer.{Wrote}
+use Rattle.text.specs.Contract.{Wrote}
 use Rattle.text.specs.declared.buffer.Filled.{Filled}
 use Rattle.text.specs.declared.buffer.Filled.the-variants.{Done}
 use Rattle.text.proofs.Laws.{next-of}

@@ -8,7 +8,7 @@ use borrow.Author.Tests.{not-true, not-false}
 use lib.ListN.{length, take, drop}
 use Rattle.text.specs.Lists.{any}
 use Rattle.text.proofs.Laws.{both-no, both-yes, both-assoc, clash}
-use Rattle.question.specs.Strings.{stringsIn, untilZero}
+use Rattle.question.specs.Contract.{stringsIn, untilZero}
 use Rattle.question.proofs.ZeroEnded.{in-at, in-open, in-end}
 use Rattle.glob.specs.Match.{matches}
 use Rattle.glob.specs.Alternative.{Alternative, alternativeOf}

@@ -9,7 +9,8 @@ use borrow.Author.Tests.{le-leb, lt-leb, not-false, eqb-true}
 use lib.Dec.{eqb, leb}
 use lib.ListN.{length, drop, getD}
 use Rattle.text.specs.Lists.{has}
-use Rattle.text.specs.Slice.{headIs, findByte}
+use Rattle.text.specs.Slice.{headIs}
+use Rattle.text.specs.Contract.{findByte}
 use Rattle.text.specs.declared.slice.Found.the-variants.{At, Nothing}
 use Rattle.text.proofs.Laws.{both-true, clash}
 use Rattle.text.proofs.Lists.{has-at}

@@ -7,7 +7,7 @@ use lib.ListN.{drop}
 use Rattle.text.specs.Lists.{any}
 use Rattle.fault.specs.Fault.{Reading, fault, value}
 use Rattle.fault.specs.declared.Cause.{Cause}
-use Rattle.question.specs.Strings.{stringsIn}
+use Rattle.question.specs.Contract.{stringsIn}
 use Rattle.glob.specs.Match.{matches}
 use Rattle.glob.specs.Alternative.{Alternative}
 use Rattle.condition.specs.declared.rightmost.Rightmost.{Rightmost}

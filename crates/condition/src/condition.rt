@@ -26,7 +26,7 @@ ghost use Rattle.text.specs.Bytes.{byte};
 ghost use Rattle.text.specs.Lists.{has};
 ghost use Rattle.fault.specs.Fault.{readAll, require};
 ghost use Rattle.pattern.specs.Whole.{expansionsOf};
-ghost use Rattle.question.specs.Strings.{stringsIn};
+ghost use Rattle.question.specs.Contract.{stringsIn};
 ghost use Rattle.condition.specs.Condition.{judgeOf, kindFor, causeFor, alternativeRead, alternativesOf, conditionBehind, conditionOf};
 ghost use Rattle.condition.specs.Contract.{sortIn, judgeIf, judgeBy, addedBy, keptFor, readAdded, conditionRead};
 

@@ -11,7 +11,7 @@ ghost use mathlib.Core.Path.{_≡_};
 ghost use mathlib.Core.Bool.{_&&_};
 ghost use mathlib.Core.Option.{Option·map};
 ghost use Rattle.text.specs.Lists.{any};
-ghost use Rattle.question.specs.Strings.{stringsIn};
+ghost use Rattle.question.specs.Contract.{stringsIn};
 ghost use Rattle.glob.specs.Match.{matches};
 ghost use Rattle.glob.specs.Alternative.{alternativeOf};
 ghost use Rattle.times.specs.Item.{itemOf, itemMatches};

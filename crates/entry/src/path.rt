@@ -2,7 +2,7 @@
 use text::buffer::Filled;
 use text::buffer::put;
 use text::buffer::put_all;
-ghost use Rattle.text.specs.Buffer.{Wrote};
+ghost use Rattle.text.specs.Contract.{Wrote};
 ghost use Rattle.entry.specs.Path.{starred};
 
 pub struct Path;

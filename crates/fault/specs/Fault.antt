@@ -63,7 +63,3 @@ module _ {F A : Type 0} where
   abbrev pub require : Bool → F → Reading F A → Reading F A
   require true c r = r
   require false c r = fault c
-
-  abbrev pub unless : Bool → F → Reading F A → Reading F A
-  unless true c r = fault c
-  unless false c r = r

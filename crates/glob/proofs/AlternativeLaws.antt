@@ -10,7 +10,8 @@ use lib.Dec.{eqb}
 use lib.ListN.{length, take, drop, getD, drop-of-length-le, length-drop}
 use lib.Seq.{take-all}
 use Rattle.text.specs.Lists.{has, onto}
-use Rattle.text.specs.Slice.{headIs, findByte}
+use Rattle.text.specs.Slice.{headIs}
+use Rattle.text.specs.Contract.{findByte}
 use Rattle.text.specs.declared.slice.Found.the-variants.{At}
 use Rattle.text.proofs.Lists.{has-at}
 use Rattle.text.proofs.Slices.{byte-at}

@@ -12,7 +12,7 @@ use lib.Seq.{take-all, take-suc-set, drop-set-lt}
 use Rattle.text.specs.Lists.{all, any}
 use Rattle.text.proofs.Laws.{next-of, both-no, both-yes, not-both}
 use Rattle.text.proofs.Lists.{all-append}
-use Rattle.question.specs.Strings.{stringsIn, untilZero}
+use Rattle.question.specs.Contract.{stringsIn, untilZero}
 use Rattle.question.proofs.ZeroEnded.{in-at, in-open, in-end}
 use Rattle.pattern.specs.declared.Syntax.the-variants.{Plain}
 use Rattle.pattern.specs.Whole.{expansionsOf, fieldExpansions, matchesPattern}

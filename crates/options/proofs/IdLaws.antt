@@ -13,7 +13,7 @@ use Rattle.text.specs.Bytes.{bytes}
 use Rattle.text.specs.Class.{nameByte}
 use Rattle.text.specs.Lists.{all, null}
 use Rattle.text.specs.Slice.{same}
-use Rattle.text.specs.Buffer.{Wrote}
+use Rattle.text.specs.Contract.{Wrote}
 use Rattle.text.specs.declared.buffer.Filled.{Filled}
 use Rattle.text.proofs.Laws.{take-min, take-most}
 use Rattle.options.specs.declared.ids.IdName.{IdName}

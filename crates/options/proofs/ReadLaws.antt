@@ -13,7 +13,8 @@ use lib.Seq.{take-all}
 use Rattle.text.specs.Bytes.{bytes}
 use Rattle.text.specs.Parts.{Parts, withFirst, partAt}
 use Rattle.text.specs.Class.{range}
-use Rattle.text.specs.Slice.{same, startsWith, findByte}
+use Rattle.text.specs.Slice.{same, startsWith}
+use Rattle.text.specs.Contract.{findByte}
 use Rattle.text.proofs.Laws.{part-rest, both-no}
 use Rattle.text.proofs.Lists.{parted-found, parted-missing}
 use Rattle.text.proofs.Slices.{same-true}

@@ -10,7 +10,7 @@ ghost use mathlib.Core.List.{List, []};
 ghost use lib.ListN.{getD};
 ghost use Rattle.text.specs.Class.{range};
 ghost use Rattle.text.specs.Lists.{any};
-ghost use Rattle.question.specs.Strings.{stringsIn};
+ghost use Rattle.question.specs.Contract.{stringsIn};
 ghost use Rattle.options.specs.Arguments.{passes};
 ghost use Rattle.options.specs.Contract.{patternAt, failures, failuresWith, failuresAfter};
 

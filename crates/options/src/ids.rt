@@ -8,7 +8,7 @@ ghost use mathlib.Core.Path.{_≡_};
 ghost use mathlib.Core.Bool.{cond};
 ghost use mathlib.Core.Option.{some, none, orElse};
 ghost use lib.ListN.{take};
-ghost use Rattle.text.specs.Buffer.{Wrote};
+ghost use Rattle.text.specs.Contract.{Wrote};
 ghost use Rattle.options.specs.Options.{idOr};
 ghost use Rattle.options.specs.Read.{idLimit, isId};
 ghost use Rattle.options.specs.Contract.{idIn};

@@ -14,7 +14,7 @@ use Rattle.text.specs.Lists.{any}
 use Rattle.text.specs.Limits.{fieldLimit}
 use Rattle.text.specs.declared.buffer.Filled.{Filled}
 use Rattle.text.specs.declared.buffer.Filled.the-variants.{Full}
-use Rattle.text.specs.Buffer.{Wrote}
+use Rattle.text.specs.Contract.{Wrote}
 use Rattle.text.proofs.Buffers.{up-full}
 use Rattle.text.proofs.Lists.{any-on, any-off, any-end}
 use Rattle.text.proofs.Laws.{both-true, either-no, clash}

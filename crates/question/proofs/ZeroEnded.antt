@@ -13,9 +13,9 @@ use Rattle.text.specs.Lists.{null, all, any}
 use Rattle.text.specs.Contract.{lead}
 use Rattle.text.proofs.Laws.{next, both-no}
 use Rattle.text.proofs.Leads.{by-lead, by-none, lead-past, from-place}
-use Rattle.question.specs.Strings.{inFront, stringsOf, into, stringsIn}
+use Rattle.question.specs.Strings.{inFront, stringsOf}
+use Rattle.question.specs.Contract.{into, stringsIn, whenStrings}
 use Rattle.question.specs.Question.{goodStrings}
-use Rattle.question.specs.Contract.{whenStrings}
 
 -- a string in front of strings
 abbrev pub consed : List ℕ → Option (List (List ℕ)) → Option (List (List ℕ))

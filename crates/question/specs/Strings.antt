@@ -4,7 +4,6 @@ use mathlib.Core.Bool.{Bool, true, false}
 use mathlib.Core.List.{List, [], _∷_}
 use mathlib.Core.Option.{Option, none, some}
 use lib.Dec.{eqb}
-use Rattle.text.specs.Contract.{lead}
 
 -- a byte in front of strings: a zero ends an empty string, any other byte belongs to the first string and needs one
 abbrev pub inFront : ℕ → Bool → Option (List (List ℕ)) → Option (List (List ℕ))
@@ -17,18 +16,3 @@ inFront b false (some (p ∷ ps)) = some ((b ∷ p) ∷ ps)
 unfoldable pub stringsOf : List ℕ → Option (List (List ℕ))
 stringsOf [] = some []
 stringsOf (b ∷ s) = inFront b (eqb b 0) (stringsOf s)
-
--- the byte in front of the first string, if there is one
-abbrev pub into : ℕ → Bool → List (List ℕ) → List (List ℕ)
-into b true ps = [] ∷ ps
-into b false [] = []
-into b false (p ∷ ps) = (b ∷ p) ∷ ps
-
--- the strings of any list, bytes behind the last zero left out; where `stringsOf` is something, the same strings
-unfoldable pub stringsIn : List ℕ → List (List ℕ)
-stringsIn [] = []
-stringsIn (b ∷ s) = into b (eqb b 0) (stringsIn s)
-
--- how many bytes stand before the first zero, or before the end
-abbrev pub untilZero : List ℕ → ℕ
-untilZero = lead 0

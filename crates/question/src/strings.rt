@@ -5,7 +5,7 @@ ghost use mathlib.Core.Path.{_≡_};
 ghost use mathlib.Core.List.{[]};
 ghost use lib.ListN.{length, drop, getD};
 ghost use Rattle.text.specs.Contract.{lead};
-ghost use Rattle.question.specs.Strings.{stringsIn};
+ghost use Rattle.question.specs.Contract.{stringsIn};
 
 // Where the string that begins at from ends: at its zero, or at the list's end.
 pub fn string_end(list: &[u8], from: usize) -> usize

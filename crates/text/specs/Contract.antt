@@ -5,8 +5,9 @@ use mathlib.Core.Bool.{Bool, true, false, cond}
 use mathlib.Core.List.{List, [], _∷_}
 use mathlib.Core.Option.{Option, none, some}
 use lib.Dec.{eqb, leb, ltb}
-use lib.ListN.{length, set}
+use lib.ListN.{length}
 use Rattle.text.specs.Class.{wordByte, nameByte, printable, commandByte}
+use Rattle.text.specs.Buffer.{laid}
 use Rattle.text.specs.declared.alphabet.Alphabet.{Alphabet}
 use Rattle.text.specs.declared.alphabet.Alphabet.the-variants.{Name, Word, Printable, Command}
 use Rattle.text.specs.declared.number.Number.{Number}
@@ -37,11 +38,6 @@ lead c (b ∷ s) = cond (eqb b c) 0 (suc (lead c s))
 unfoldable pub findByte : ℕ → ℕ → List ℕ → Found
 unfolding lead
 findByte c at s = cond (ltb (lead c s) (length s)) (At (at + lead c s)) Nothing
-
--- the buffer with the bytes stored one after the other from place n on; a place past its end takes none
-unfoldable pub laid : List ℕ → ℕ → List ℕ → List ℕ
-laid out n [] = out
-laid out n (b ∷ xs) = laid (set out n b) (n + 1) xs
 
 -- the answer of a writer, where m is the place after the last byte
 unfoldable pub filledTo : ℕ → ℕ → Filled

@@ -5,7 +5,6 @@ use mathlib.Core.List.{List, [], _∷_}
 use lib.Dec.{eqb}
 use Rattle.text.specs.declared.slice.Found.{Found}
 use Rattle.text.specs.declared.slice.Found.the-variants.{At, Nothing}
-unfoldable pub use Rattle.text.specs.Contract.{findByte}
 
 -- the same bytes
 unfoldable pub same : List ℕ → List ℕ → Bool

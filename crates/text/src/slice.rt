@@ -6,8 +6,8 @@ ghost use mathlib.Core.Path.{_≡_};
 ghost use lib.ListN.{length, drop};
 ghost use Rattle.text.specs.Class.{nameByte};
 ghost use Rattle.text.specs.Lists.{all};
-ghost use Rattle.text.specs.Slice.{same, startsWith, headIs, findPair, findByte};
-ghost use Rattle.text.specs.Contract.{lead};
+ghost use Rattle.text.specs.Slice.{same, startsWith, headIs, findPair};
+ghost use Rattle.text.specs.Contract.{findByte, lead};
 
 // A place in a slice, or that there is none.
 pub enum Found {

@@ -1,7 +1,7 @@
 use mathlib.Core.Path.{_≡_, refl, sym, _∙_}
 use Rattle.condition.proofs.JudgeLaws.{groups-on, groups-hit, groups-open, groups-end}
 use Rattle.glob.specs.Match.{matches}
-use Rattle.question.specs.Strings.{stringsIn}
+use Rattle.question.specs.Contract.{stringsIn}
 use Rattle.text.specs.Lists.{any}
 use lib.ListN.{length, drop}
 use Prim.Native.Nat.{_-_}

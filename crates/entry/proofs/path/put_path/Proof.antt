@@ -7,7 +7,7 @@ use borrow.Author.Needs.{needs}
 use borrow.Author.Tests.{eq-eqb, ne-eqb}
 use lib.ListN.{length, drop}
 use Rattle.text.specs.declared.buffer.Filled.{Filled}
-use Rattle.text.specs.Buffer.{Wrote}
+use Rattle.text.specs.Contract.{Wrote}
 use Rattle.text.proofs.Buffers.{wrote-length, wrote-done, wrote-then, wrote-full, wrote-as, wrote-none}
 use Rattle.entry.specs.Path.{starred}
 use Rattle.entry.proofs.PathLaws.{piece, starred-next, starred-end}

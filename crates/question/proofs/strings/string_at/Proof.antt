@@ -5,7 +5,7 @@ use native.Mathlib.Omega.{arith}
 use borrow.Author.Needs.{needs}
 use lib.ListN.{length, drop, getD}
 use Rattle.question.proofs.ZeroEnded.{at-start, at-on, at-hit, at-open, at-end}
-use Rattle.question.specs.Strings.{stringsIn}
+use Rattle.question.specs.Contract.{stringsIn}
 use Rattle.question.proofs.strings.string_at.Statement.{statement}
 use Rattle.question.proofs.strings.string_at.Tie as tie
 

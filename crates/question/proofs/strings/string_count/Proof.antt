@@ -4,7 +4,7 @@ use native.Mathlib.Omega.{arith}
 use borrow.Author.Needs.{needs}
 use lib.ListN.{length, drop}
 use Rattle.question.proofs.ZeroEnded.{count-on, count-open, count-end}
-use Rattle.question.specs.Strings.{stringsIn}
+use Rattle.question.specs.Contract.{stringsIn}
 use Rattle.question.proofs.strings.string_count.Statement.{statement}
 use Rattle.question.proofs.strings.string_count.Tie as tie
 

@@ -3,7 +3,7 @@ use mathlib.Core.Bool.{Bool}
 use mathlib.Core.Path.{_≡_, refl}
 use Prim.Native.Nat.{ℕ}
 use borrow.Author.Needs.{needs}
-use Rattle.question.specs.Strings.{stringsIn}
+use Rattle.question.specs.Contract.{stringsIn}
 use Rattle.options.proofs.ArgumentLaws.{failures-of}
 use Rattle.options.proofs.setting.OptionSetting.{the-type}
 use Rattle.options.specs.Contract.{failuresAfter}

@@ -6,7 +6,7 @@ use lib.ListN.{length}
 use Rattle.options.proofs.ArgumentLaws.{markedFrom, marked-on, marked-end, marked-open, marked-full}
 use Rattle.options.specs.Contract.{patternAt, failuresWith}
 use Rattle.text.specs.Class.{range}
-use Rattle.question.specs.Strings.{stringsIn}
+use Rattle.question.specs.Contract.{stringsIn}
 use Rattle.options.proofs.arguments.Failures.mark.Statement.{statement}
 use Rattle.options.proofs.arguments.Failures.mark.Tie as tie
 
