@@ -24,11 +24,11 @@ use Rattle.entry.specs.Users.{userApplies, groupApplies, decidedBy, usersAccept
 use Rattle.entry.specs.Verdict.{verdictOn, verdictOf}
 use Rattle.fault.specs.Fault.{numberOf as fault-Fault-numberOf, readAll}
 use Rattle.line.specs.Fold.{run, outcome}
-use Rattle.line.specs.Joined.{markOf as line-Joined-markOf, modeAfter, joinMarks, modeJoined, needsIndent, startAt, given as line-Joined-given, after as line-Joined-after, lastMarks, bareAtEnd, marks, endState}
-use Rattle.line.specs.Kind.{kindOf}
+use Rattle.line.specs.Joined.{leading, partsFields, modeAfter, joinBlank, modeJoined, joinedFrom, joinedLine, indented}
+use Rattle.line.specs.Kind.{kindOfLine}
 use Rattle.line.specs.Line.{lines, endsAt, cutShort}
 use Rattle.line.specs.Refused.{accepted, refusedFrom, refusedByte}
-use Rattle.line.specs.Scan.{openQuote, fieldsFrom as line-Scan-fieldsFrom, verdict as line-Scan-verdict, scanned}
+use Rattle.line.specs.Scan.{stretches, nonEmpty, fieldsOf, quotingAtEnd, checked, scanned}
 use Rattle.options.specs.Arguments.{passes, argumentsFrom, argumentsPass, inForce, failuresFrom, failures, marked as options-Arguments-marked, joined as options-Arguments-joined}
 use Rattle.options.specs.Options.{noOptions, over, nargsAllow}
 use Rattle.options.specs.Read.{rangeOf as options-Read-rangeOf, nameOf, isId, idOf, authOf, timeoutOf, argumentOf, settingOf, optionOf, only, optionsOf, argumentsOf, hasShell, twice}
@@ -40,12 +40,13 @@ use Rattle.question.specs.Password.{fresh, passwordNeeded}
 use Rattle.question.specs.Question.{commandByte, goodComponent, goodCommand, goodName, goodGroups, goodArgument, goodArguments, goodQuestion, questionOf}
 use Rattle.question.specs.Strings.{stringsOf, stringsIn, untilZero}
 use Rattle.reader.specs.Colon.{defineName, defineText, defineLine, globalLine, operatorOf, ifLine, colonWord}
-use Rattle.reader.specs.Read.{entryLine, fieldsRead, lineCause, lineRead}
+use Rattle.reader.specs.Read.{entryLine, fieldsRead, lineRead}
 use Rattle.reader.specs.State.{start as reader-State-start, withDefinition, withSettings, withEntry}
 use Rattle.text.specs.Class.{blank, letter, digit, wordByte, nameByte, printable, visible, classOf}
 use Rattle.text.specs.Lists.{all as text-Lists-all, any as text-Lists-any, count, firstFault, has, splitAt}
 use Rattle.text.specs.Number.{digits, numberOf as text-Number-numberOf}
 use Rattle.text.specs.Parts.{partAt}
+use Rattle.text.specs.Quote.{quotingAfter as text-Quote-quotingAfter}
 use Rattle.text.specs.Slice.{same, startsWith, headIs, findPair, findByte}
 use Rattle.times.specs.Clock.{hourOf, minuteOf, clockOf}
 use Rattle.times.specs.Day.{dayNames, lowerOf, shortens, dayAmong, dayOf}
@@ -137,5 +138,5 @@ unfolding table buffer
 given c = answerOf (take (c .cut) table) (c .asked) buffer
 
 pub worked : map given cases ≡ map (λ c. c .expected) cases
-unfolding table buffer asks ago filled nothing clock clockSet log logged whole cutAt cases given toldOf isDecision decidingLine strings overlaid grantedBy answer-Meaning-step answer-Meaning-verdict answerOf entry-Entry-fieldsFrom completed entryOf starred pathFor conditionsAccept noField followed expanded pathOf hasPair pairOf commandOf fullPathOf prefixed unnegated userMarks timeMarks otherOf pieceOf userApplies groupApplies decidedBy usersAccept verdictOn verdictOf fault-Fault-numberOf readAll run outcome line-Joined-markOf modeAfter joinMarks modeJoined needsIndent startAt line-Joined-given line-Joined-after lastMarks bareAtEnd marks endState kindOf lines endsAt cutShort accepted refusedFrom refusedByte openQuote line-Scan-fieldsFrom line-Scan-verdict scanned passes argumentsFrom argumentsPass inForce failuresFrom failures options-Arguments-marked options-Arguments-joined noOptions over nargsAllow options-Read-rangeOf nameOf isId idOf authOf timeoutOf argumentOf settingOf optionOf only optionsOf argumentsOf hasShell twice pattern-Alternative-next partsAt partsOf goodPart alternativeOf signOf items escapedItems behindSet tails matchItems matches matchesSome bodyOf behind reach ranges members goodSet listed inSet depth number pattern-Tree-joined expansions fits pattern-Tree-markOf firstPiece readPattern readList patternOf listOf treeOf fresh passwordNeeded commandByte goodComponent goodCommand goodName goodGroups goodArgument goodArguments goodQuestion questionOf stringsOf stringsIn untilZero defineName defineText defineLine globalLine operatorOf ifLine colonWord entryLine fieldsRead lineCause lineRead reader-State-start withDefinition withSettings withEntry blank letter digit wordByte nameByte printable visible classOf text-Lists-all text-Lists-any count firstFault has splitAt digits text-Number-numberOf partAt same startsWith headIs findPair findByte hourOf minuteOf clockOf dayNames lowerOf shortens dayAmong dayOf compared times-Item-rangeOf spanOf itemOf onDay inSpan itemMatches itemAnswer rightmost timesAccept times-Rule-marked unmarked markedAll lookup define tooMany nameStart isName builtIn textOf quotingAfter stays refers variables-Substitute-word known closed reference pieces variables-Substitute-joined joinedUpToBad substituted fieldText
+unfolding table buffer asks ago filled nothing clock clockSet log logged whole cutAt cases given toldOf isDecision decidingLine strings overlaid grantedBy answer-Meaning-step answer-Meaning-verdict answerOf entry-Entry-fieldsFrom completed entryOf starred pathFor conditionsAccept noField followed expanded pathOf hasPair pairOf commandOf fullPathOf prefixed unnegated userMarks timeMarks otherOf pieceOf userApplies groupApplies decidedBy usersAccept verdictOn verdictOf fault-Fault-numberOf readAll run outcome leading partsFields modeAfter joinBlank modeJoined joinedFrom joinedLine indented kindOfLine lines endsAt cutShort accepted refusedFrom refusedByte text-Quote-quotingAfter stretches nonEmpty fieldsOf quotingAtEnd checked scanned passes argumentsFrom argumentsPass inForce failuresFrom failures options-Arguments-marked options-Arguments-joined noOptions over nargsAllow options-Read-rangeOf nameOf isId idOf authOf timeoutOf argumentOf settingOf optionOf only optionsOf argumentsOf hasShell twice pattern-Alternative-next partsAt partsOf goodPart alternativeOf signOf items escapedItems behindSet tails matchItems matches matchesSome bodyOf behind reach ranges members goodSet listed inSet depth number pattern-Tree-joined expansions fits pattern-Tree-markOf firstPiece readPattern readList patternOf listOf treeOf fresh passwordNeeded commandByte goodComponent goodCommand goodName goodGroups goodArgument goodArguments goodQuestion questionOf stringsOf stringsIn untilZero defineName defineText defineLine globalLine operatorOf ifLine colonWord entryLine fieldsRead lineRead reader-State-start withDefinition withSettings withEntry blank letter digit wordByte nameByte printable visible classOf text-Lists-all text-Lists-any count firstFault has splitAt digits text-Number-numberOf partAt same startsWith headIs findPair findByte hourOf minuteOf clockOf dayNames lowerOf shortens dayAmong dayOf compared times-Item-rangeOf spanOf itemOf onDay inSpan itemMatches itemAnswer rightmost timesAccept times-Rule-marked unmarked markedAll lookup define tooMany nameStart isName builtIn textOf quotingAfter stays refers variables-Substitute-word known closed reference pieces variables-Substitute-joined joinedUpToBad substituted fieldText
 worked = refl

@@ -14,8 +14,8 @@ use Rattle.fault.specs.Fault.{Reading, fault, value, andThen, readAll, unless}
 use Rattle.line.specs.declared.kind.LineKind.{LineKind}
 use Rattle.line.specs.declared.kind.LineKind.the-variants.{NoField, Colon, Entry}
 use Rattle.line.specs.Line.{Line}
-use Rattle.line.specs.Kind.{kindOf}
-use Rattle.line.specs.Scan.{Scanned, scanned, fault as scanFault, fields}
+use Rattle.line.specs.Kind.{kindOfLine}
+use Rattle.line.specs.Scan.{scanned}
 use Rattle.question.specs.Question.{Question}
 use Rattle.variables.specs.Scope.{Scope, Definition, definition, define, tooMany}
 use Rattle.variables.specs.Substitute.{fieldText}
@@ -24,7 +24,7 @@ use Rattle.entry.specs.Entry.{entryOf}
 use Rattle.entry.specs.Verdict.{Verdict, verdictOf}
 use Rattle.reader.specs.State.{State, Decision, decisionOf, scopeOf, withDefinition, withSettings, withEntry}
 use Rattle.reader.specs.Colon.{defined, textAfter, defineName, defineText, defineLine, globalField, globalLine, operatorOf, holds, restIf, rightAfter, operatorAfter, ifLine, colonWord}
-use Rattle.reader.specs.Read.{entryLine, colonLine, byKind, fieldsRead, scannedRead, lineRead}
+use Rattle.reader.specs.Read.{entryLine, colonLine, byKind, fieldsRead, lineRead}
 
 -- what a line does to the decision
 pub record Keeps (line end : ℕ) (s t : State) : Type 0 where
@@ -148,13 +148,9 @@ module _ (line end : ℕ) where
 
     pub fields-keep : (depth : ℕ) (s t : State) (fs : List (List ℕ)) → fieldsRead depth q line end s fs ≡ value t → Keeps line end s t
     unfolding fieldsRead
-    fields-keep zero s t fs e = by-kind none s t tt fs (kindOf fs) e
-    fields-keep (suc depth) s t fs e = by-kind (some (λ r. fieldsRead depth q line end s r)) s t (λ r x. fields-keep depth s t r x) fs (kindOf fs) e
+    fields-keep zero s t fs e = by-kind none s t tt fs (kindOfLine fs) e
+    fields-keep (suc depth) s t fs e = by-kind (some (λ r. fieldsRead depth q line end s r)) s t (λ r x. fields-keep depth s t r x) fs (kindOfLine fs) e
 
 pub line-keeps : (q : Question) (s t : State) (l : Line) → lineRead q s l ≡ value t → Keeps (l .number) (l .end) s t
 unfolding lineRead
-line-keeps q s t l e = go (scanned (l .bytes)) e
-  where
-    go : (x : Scanned) → scannedRead q (l .number) (l .end) s x ≡ value t → Keeps (l .number) (l .end) s t
-    go (scanFault f) x = absurd (never x)
-    go (fields fs) x = fields-keep (l .number) (l .end) q 4 s t fs x
+line-keeps q s t l e = let u = and-then (scanned (l .bytes)) _ t e in fields-keep (l .number) (l .end) q 4 s t (u .0) (u .2)

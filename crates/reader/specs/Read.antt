@@ -3,16 +3,14 @@ use Prim.Native.Nat.{ℕ, zero, suc}
 use mathlib.Core.Bool.{Bool, true, false, not}
 use mathlib.Core.List.{List, [], _∷_}
 use mathlib.Core.Option.{Option, none, some}
-use Rattle.fault.specs.Fault.{Reading, fault, value, andThen, unless}
+use Rattle.fault.specs.Fault.{Reading, value, andThen, unless}
 use Rattle.fault.specs.declared.Cause.{Cause}
-use Rattle.fault.specs.declared.Cause.the-variants.{LineLength, Indent, OpenQuote, FieldCount, EntryTooEarly}
-use Rattle.line.specs.declared.scan.LineFault.{LineFault}
-use Rattle.line.specs.declared.scan.LineFault.the-variants.{Long as LongLine, Indent as BadIndent, Quote as BadQuote, Fields as ManyFields}
+use Rattle.fault.specs.declared.Cause.the-variants.{EntryTooEarly}
 use Rattle.line.specs.declared.kind.LineKind.{LineKind}
 use Rattle.line.specs.declared.kind.LineKind.the-variants.{NoField, Colon as ColonKind, Entry as EntryKind}
 use Rattle.line.specs.Line.{Line}
-use Rattle.line.specs.Scan.{Scanned, scanned, fault as scanFault, fields}
-use Rattle.line.specs.Kind.{kindOf}
+use Rattle.line.specs.Scan.{scanned}
+use Rattle.line.specs.Kind.{kindOfLine}
 use Rattle.question.specs.Question.{Question}
 use Rattle.variables.specs.Substitute.{fieldText}
 use Rattle.entry.specs.Entry.{entryOf}
@@ -35,20 +33,9 @@ byKind q line end deeper s fs EntryKind = entryLine q line end s fs
 
 -- the fields of a control line, with the depth left for `:if`: to a depth of 4
 unfoldable pub fieldsRead : ℕ → Question → ℕ → ℕ → State → List (List ℕ) → Reading Cause State
-fieldsRead zero q line end s fs = byKind q line end none s fs (kindOf fs)
-fieldsRead (suc d) q line end s fs = byKind q line end (some (λ rest. fieldsRead d q line end s rest)) s fs (kindOf fs)
-
--- the cause of a fault found before fields are looked at
-unfoldable pub lineCause : LineFault → Cause
-lineCause LongLine = LineLength
-lineCause BadIndent = Indent
-lineCause BadQuote = OpenQuote
-lineCause ManyFields = FieldCount
-
-abbrev pub scannedRead : Question → ℕ → ℕ → State → Scanned → Reading Cause State
-scannedRead q line end s (scanFault f) = fault (lineCause f)
-scannedRead q line end s (fields fs) = fieldsRead 4 q line end s fs
+fieldsRead zero q line end s fs = byKind q line end none s fs (kindOfLine fs)
+fieldsRead (suc d) q line end s fs = byKind q line end (some (λ rest. fieldsRead d q line end s rest)) s fs (kindOfLine fs)
 
 -- a control line: joined length, indents, quotes, number of fields, then fields left to right, then the whole line
 unfoldable pub lineRead : Question → State → Line → Reading Cause State
-lineRead q s l = scannedRead q (l .number) (l .end) s (scanned (l .bytes))
+lineRead q s l = andThen (scanned (l .bytes)) (λ fs. fieldsRead 4 q (l .number) (l .end) s fs)
