@@ -13,7 +13,7 @@ use Rattle.text.specs.Buffer.{laid}
 use Rattle.text.specs.Lists.{onto}
 use Rattle.line.specs.Joined.{JoinedByte, kept, between}
 use Rattle.line.specs.Scan.{stretches, nonEmpty, fieldsOf}
-use Rattle.line.specs.Contract.{Progress, closedIf, closedOff, longer, absorbed, absorbedAll, endsFrom, textOf}
+use Rattle.line.specs.Contract.{Progress, closedIf, closedOff, longer, absorbed, absorbedAll, endsFrom, fieldsText}
 use Rattle.line.proofs.ProgressLaws.{closed-of}
 
 -- ---- the field that is being read, in front of the stretches of what follows
@@ -41,20 +41,20 @@ unfolding absorbedAll
 all-joined p [] = omega arith
 all-joined p (x ∷ j) = omega (arith, all-joined (absorbed p x) j, absorbed-joined p x)
 
-text-onto : (b : ℕ) (ps : List (List ℕ)) → textOf (nonEmpty (onto b ps)) ≡ b ∷ textOf (nonEmpty ps)
-unfolding textOf nonEmpty
+text-onto : (b : ℕ) (ps : List (List ℕ)) → fieldsText (nonEmpty (onto b ps)) ≡ b ∷ fieldsText (nonEmpty ps)
+unfolding fieldsText nonEmpty
 text-onto b [] = refl
 text-onto b ([] ∷ ps) = refl
 text-onto b ((x ∷ p) ∷ ps) = refl
 
-pub all-text : (p : Progress) (j : List JoinedByte) → absorbedAll p j .text ≡ laid (p .text) (p .kept) (textOf (fieldsOf j))
-unfolding absorbedAll absorbed fieldsOf stretches nonEmpty textOf laid
+pub all-text : (p : Progress) (j : List JoinedByte) → absorbedAll p j .text ≡ laid (p .text) (p .kept) (fieldsText (fieldsOf j))
+unfolding absorbedAll absorbed fieldsOf stretches nonEmpty fieldsText laid
 all-text p [] = refl
 all-text p (kept b ∷ j) = rw (text-onto b (stretches j)) (all-text (absorbed p (kept b)) j)
-all-text p (between ∷ j) = all-text (absorbed p between) j ∙ closed-of (λ q. laid (q .text) (q .kept) (textOf (fieldsOf j)) ≡ laid (p .text) (p .kept) (textOf (fieldsOf j))) (longer p 1) refl refl
+all-text p (between ∷ j) = all-text (absorbed p between) j ∙ closed-of (λ q. laid (q .text) (q .kept) (fieldsText (fieldsOf j)) ≡ laid (p .text) (p .kept) (fieldsText (fieldsOf j))) (longer p 1) refl refl
 
-pub text-few : (j : List JoinedByte) → length (textOf (fieldsOf j)) ≤ length j
-unfolding fieldsOf stretches nonEmpty textOf
+pub text-few : (j : List JoinedByte) → length (fieldsText (fieldsOf j)) ≤ length j
+unfolding fieldsOf stretches nonEmpty fieldsText
 text-few [] = omega arith
 text-few (kept b ∷ j) = rw (text-onto b (stretches j)) (omega (arith, text-few j))
 text-few (between ∷ j) = omega (arith, text-few j)

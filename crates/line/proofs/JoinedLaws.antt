@@ -13,7 +13,7 @@ use lib.Seq.{drop-cons, drop-drop, getD-drop}
 use Rattle.text.specs.Bytes.{byte, is}
 use Rattle.text.specs.Class.{blank}
 use Rattle.text.proofs.Laws.{next, clash, both-no, both-true}
-use Rattle.line.specs.Joined.{Mode, JoinedByte, begins, leading, gives, joins, joint, modeAfter, modeJoined, joinedFrom, indented}
+use Rattle.line.specs.Joined.{Mode, JoinedByte, begins, leading, gives, joins, joinBlank, modeAfter, modeJoined, joinedFrom, indented}
 use Rattle.line.specs.Contract.{joinsAt, joinedAt}
 
 -- ---- at the first byte
@@ -41,7 +41,7 @@ joined-step : (hash : Bool) (m : Mode) (before b : ℕ) (s : List ℕ) → joins
 unfolding joinedFrom
 joined-step hash m before b s e = rw (e, joinedFrom)
 
-joined-join : (hash : Bool) (m : Mode) (before b : ℕ) (s : List ℕ) → joins b s ≡ true → joinedFrom hash 0 m before (b ∷ s) ≡ joint m before ++ joinedFrom hash (suc (leading blank (drop 1 s))) (modeJoined hash m) b s
+joined-join : (hash : Bool) (m : Mode) (before b : ℕ) (s : List ℕ) → joins b s ≡ true → joinedFrom hash 0 m before (b ∷ s) ≡ joinBlank m before ++ joinedFrom hash (suc (leading blank (drop 1 s))) (modeJoined hash m) b s
 unfolding joinedFrom
 joined-join hash m before b s e = rw (e, joinedFrom)
 
@@ -110,7 +110,7 @@ module _ (hash : Bool) (m : Mode) (line : List ℕ) (i : ℕ) where
       let f : joins (getD line i 0) (drop (i + 1) line) ≡ false = rw (next line i h) at e in
       rw (next line i h, behind) (joined-step hash m (getD (byte "\n" ∷ line) i 0) (getD line i 0) (drop (i + 1) line) f)
 
-  pub at-join : i < length line → joinsAt (drop i line) ≡ true → joinedAt hash m line i ≡ joint m (getD (byte "\n" ∷ line) i 0) ++ joinedAt hash (modeJoined hash m) line (i + 2 + leading blank (drop (i + 2) line))
+  pub at-join : i < length line → joinsAt (drop i line) ≡ true → joinedAt hash m line i ≡ joinBlank m (getD (byte "\n" ∷ line) i 0) ++ joinedAt hash (modeJoined hash m) line (i + 2 + leading blank (drop (i + 2) line))
   at-join h e =
       let f : joins (getD line i 0) (drop (i + 1) line) ≡ true = rw (next line i h) at e in
       let k = leading blank (drop (i + 2) line) in

@@ -16,7 +16,7 @@ use Rattle.text.specs.Quote.{quotingAfter}
 use Rattle.text.specs.declared.quote.Quoting.{Quoting}
 use Rattle.text.specs.declared.quote.Quoting.the-variants.{Outside, Single, Double}
 use Rattle.text.proofs.Laws.{either-true}
-use Rattle.line.specs.Joined.{Mode, inFields, inComment, JoinedByte, kept, between, leading, unquoted, parts, gives, joint, modeAfter, modeJoined}
+use Rattle.line.specs.Joined.{Mode, inFields, inComment, JoinedByte, kept, between, leading, unquoted, partsFields, gives, joinBlank, modeAfter, modeJoined}
 use Rattle.line.specs.Scan.{quotingAtEnd}
 use Rattle.line.specs.Contract.{quotingOf, Progress, closedIf, closedOff, longer, absorbed, absorbedAll}
 use Rattle.line.proofs.JoinedLaws.{Steady}
@@ -27,7 +27,7 @@ unfolding blank quotingAfter
 blank-quoting b e = elim (either-true (eqb b 32) (eqb b 9) e) [ inl f ↦ rw (eqb-true b 32 f) | inr f ↦ rw (eqb-true b 9 f) ]
 
 pub quoting-byte : (m : Mode) (b : ℕ) (j : List JoinedByte) → quotingAtEnd (quotingOf m) (gives m b ∷ j) ≡ quotingAtEnd (quotingOf (modeAfter m b)) j
-unfolding quotingAtEnd parts modeAfter
+unfolding quotingAtEnd partsFields modeAfter
 quoting-byte inComment b j = refl
 quoting-byte (inFields Single) b j = refl
 quoting-byte (inFields Double) b j = refl
@@ -38,8 +38,8 @@ quoting-byte (inFields Outside) b j = go (is "#" b) (blank b) refl
     go false true e = rw (blank-quoting b e)
     go false false e = refl
 
-pub quoting-join : (hash : Bool) (m : Mode) (before : ℕ) (j : List JoinedByte) → quotingAtEnd (quotingOf m) (joint m before ++ j) ≡ quotingAtEnd (quotingOf (modeJoined hash m)) j
-unfolding quotingAtEnd quotingAfter parts joint modeJoined blank
+pub quoting-join : (hash : Bool) (m : Mode) (before : ℕ) (j : List JoinedByte) → quotingAtEnd (quotingOf m) (joinBlank m before ++ j) ≡ quotingAtEnd (quotingOf (modeJoined hash m)) j
+unfolding quotingAtEnd quotingAfter partsFields joinBlank modeJoined blank
 quoting-join true inComment before j = refl
 quoting-join false inComment before j = refl
 quoting-join hash (inFields Outside) before j = go (wordByte before)

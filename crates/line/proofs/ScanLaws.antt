@@ -16,7 +16,7 @@ use Rattle.text.specs.Lists.{null}
 use Rattle.text.specs.declared.quote.Quoting.the-variants.{Outside}
 use Rattle.text.proofs.Laws.{clash, either-no}
 use Rattle.text.proofs.Buffers.{laid-length, laid-is}
-use Rattle.fault.specs.Fault.{Reading, fault, value, require}
+use Rattle.fault.specs.Fault.{Reading, fault, value, andThen, require}
 use Rattle.fault.specs.declared.Cause.{Cause}
 use Rattle.fault.specs.declared.Cause.the-variants.{LineLength, Indent, OpenQuote, FieldCount}
 use Rattle.line.specs.declared.counts.Counts.{Counts}
@@ -25,7 +25,7 @@ use Rattle.line.specs.declared.scan.ScannedLine.the-variants.{Good, Faul
 use Rattle.line.specs.declared.scanner.Scanner.{Scanner}
 use Rattle.line.specs.Joined.{begins, leading, unquoted, joinedFrom, joinedLine, indented}
 use Rattle.line.specs.Scan.{stretches, nonEmpty, fieldsOf, quotingAtEnd, checked, scanned}
-use Rattle.line.specs.Contract.{modeOf, quotingOf, Progress, progress, closedOff, absorbedAll, startOf, Bounded, Goes, fieldsAt, fieldsIn, endsFrom, textOf, counted, toldBy, Scans}
+use Rattle.line.specs.Contract.{modeOf, quotingOf, Progress, progress, closedOff, absorbedAll, startOf, Bounded, Goes, fieldsAt, fieldsIn, endsFrom, fieldsText, counted, Scans}
 use Rattle.line.proofs.JoinedLaws.{at-end, indented-end}
 use Rattle.line.proofs.ProgressLaws.{closed-joined}
 use Rattle.line.proofs.FieldsLaws.{all-joined, all-text, laid-fields, text-few}
@@ -37,11 +37,11 @@ unfolding scanned checked joinedLine joinedFrom indented fieldsOf stretches nonE
 scanned-empty = refl
 
 -- ---- the answer
-told-count : (joined : ℕ) (indents quotes : Bool) (fs : List (List ℕ)) → counted (checked joined indents quotes (length fs) (length fs)) ≡ toldBy (checked joined indents quotes (length fs) fs)
+told-count : (joined : ℕ) (indents quotes : Bool) (fs : List (List ℕ)) → counted (checked joined indents quotes (length fs) (length fs)) ≡ counted (andThen (checked joined indents quotes (length fs) fs) (λ x. value (length x)))
 unfolding checked
 told-count joined indents quotes fs = go (leb joined 4096) indents quotes (leb (length fs) 64)
   where
-    go : (a b c d : Bool) → counted (require a LineLength (require b Indent (require c OpenQuote (require d FieldCount (value (length fs)))))) ≡ toldBy (require a LineLength (require b Indent (require c OpenQuote (require d FieldCount (value fs)))))
+    go : (a b c d : Bool) → counted (require a LineLength (require b Indent (require c OpenQuote (require d FieldCount (value (length fs)))))) ≡ counted (andThen (require a LineLength (require b Indent (require c OpenQuote (require d FieldCount (value fs))))) (λ x. value (length x)))
     go true true true true = refl
     go true true true false = refl
     go true true false d = refl
@@ -108,23 +108,23 @@ checked-good {A} joined indents quotes fields x y e = go (leb joined 4096) inden
     go true false c d k l f = clash cc
     go false b c d k l f = clash cc
 
-told-good : (x : Reading Cause (List (List ℕ))) (n : ℕ) → toldBy x ≡ Good n → (fs : List (List ℕ)) × (x ≡ value fs) × (length fs ≡ n)
+told-good : (x : Reading Cause (List (List ℕ))) (n : ℕ) → counted (andThen x (λ fs. value (length fs))) ≡ Good n → (fs : List (List ℕ)) × (x ≡ value fs) × (length fs ≡ n)
 told-good (value fs) n e = (fs, refl, cc)
 told-good (fault c) n e = clash cc
 
-told-fault : (x : Reading Cause (List (List ℕ))) (c : Cause) → toldBy x ≡ Fault c → x ≡ fault c
+told-fault : (x : Reading Cause (List (List ℕ))) (c : Cause) → counted (andThen x (λ fs. value (length fs))) ≡ Fault c → x ≡ fault c
 told-fault (value fs) c e = clash cc
 told-fault (fault d) c e = cc
 
 -- fields laid one behind the other are told by their ends
-read-back : (t pre rest more : List ℕ) (fs : List (List ℕ)) → t ≡ pre ++ (textOf fs ++ rest) → fieldsAt t (length pre) (endsFrom (length pre) fs ++ more) (length fs) ≡ fs
-unfolding fieldsAt endsFrom textOf
+read-back : (t pre rest more : List ℕ) (fs : List (List ℕ)) → t ≡ pre ++ (fieldsText fs ++ rest) → fieldsAt t (length pre) (endsFrom (length pre) fs ++ more) (length fs) ≡ fs
+unfolding fieldsAt endsFrom fieldsText
 read-back t pre rest more [] e = refl
 read-back t pre rest more (f ∷ fs) e =
     let z : length pre + length f - length pre ≡ length f = omega arith in
-    let a : t ≡ pre ++ (f ++ (textOf fs ++ rest)) = e ∙ ap (λ x. pre ++ x) (append-assoc f (textOf fs) rest) in
-    let b : take (length f) (drop (length pre) t) ≡ f = rw (a, drop-append-seam pre (f ++ (textOf fs ++ rest))) (take-append-seam f (textOf fs ++ rest)) in
-    let c : fieldsAt t (length pre + length f) (endsFrom (length pre + length f) fs ++ more) (length fs) ≡ fs = rw (length-append pre f) at (read-back t (pre ++ f) rest more fs (a ∙ sym (append-assoc pre f (textOf fs ++ rest)))) in
+    let a : t ≡ pre ++ (f ++ (fieldsText fs ++ rest)) = e ∙ ap (λ x. pre ++ x) (append-assoc f (fieldsText fs) rest) in
+    let b : take (length f) (drop (length pre) t) ≡ f = rw (a, drop-append-seam pre (f ++ (fieldsText fs ++ rest))) (take-append-seam f (fieldsText fs ++ rest)) in
+    let c : fieldsAt t (length pre + length f) (endsFrom (length pre + length f) fs ++ more) (length fs) ≡ fs = rw (length-append pre f) at (read-back t (pre ++ f) rest more fs (a ∙ sym (append-assoc pre f (fieldsText fs ++ rest)))) in
     rw (z, b, c)
 
 ends-length : (n : ℕ) (fs : List (List ℕ)) → length (endsFrom n fs) ≡ length fs
@@ -134,7 +134,7 @@ ends-length n (f ∷ fs) = ap suc (ends-length (n + length f) fs)
 
 module _ {line text text′ ends ends′ : List ℕ} {r : ScannedLine} (w : Scans line text text′ ends ends′ r) where
   pub scans-length : length text′ ≡ length text
-  scans-length = ap length (w .bytes) ∙ laid-length text 0 (textOf (fieldsOf (joinedLine line)))
+  scans-length = ap length (w .bytes) ∙ laid-length text 0 (fieldsText (fieldsOf (joinedLine line)))
 
   pub scans-fault : {c : Cause} → r ≡ Fault c → scanned line ≡ fault c
   scans-fault {c} e = told-fault (scanned line) c (sym (w .answer) ∙ e)
@@ -149,7 +149,7 @@ module _ {line text text′ ends ends′ : List ℕ} {r : ScannedLine} (w : Scan
       let m : min n 64 ≡ length fs = omega (arith, k .1, ap length (k .2), g .2) in
       let o : take 64 (endsFrom 0 fs) ≡ endsFrom 0 fs = take-all 64 (endsFrom 0 fs) (omega (arith, ends-length 0 fs, k .1)) in
       let x : 0 + length (endsFrom 0 fs) ≤ length ends = omega (arith, ends-length 0 fs, k .1) in
-      let y : 0 + length (textOf fs) ≤ length text = omega (arith, text-few j, k .0) in
+      let y : 0 + length (fieldsText fs) ≤ length text = omega (arith, text-few j, k .0) in
       let p : ends′ ≡ endsFrom 0 fs ++ drop (0 + length (endsFrom 0 fs)) ends = w .places ∙ rw o (laid-is ends 0 (endsFrom 0 fs) x) in
-      let q : text′ ≡ textOf fs ++ drop (0 + length (textOf fs)) text = w .bytes ∙ laid-is text 0 (textOf fs) y in
-      (g .1 ∙ ap value (sym (rw (m, p) (read-back text′ [] (drop (0 + length (textOf fs)) text) (drop (0 + length (endsFrom 0 fs)) ends) fs q) ∙ k .2)), omega (arith, k .1, ap length (k .2), g .2))
+      let q : text′ ≡ fieldsText fs ++ drop (0 + length (fieldsText fs)) text = w .bytes ∙ laid-is text 0 (fieldsText fs) y in
+      (g .1 ∙ ap value (sym (rw (m, p) (read-back text′ [] (drop (0 + length (fieldsText fs)) text) (drop (0 + length (endsFrom 0 fs)) ends) fs q) ∙ k .2)), omega (arith, k .1, ap length (k .2), g .2))

@@ -20,9 +20,9 @@ use Rattle.line.specs.declared.mode.ScanMode.{ScanMode}
 use Rattle.line.specs.declared.mode.ScanMode.the-variants.{Fields, Comment}
 use Rattle.line.specs.declared.run.Run.the-variants.{Blanks, Plain, NoBackslash}
 use Rattle.line.specs.declared.scanner.Scanner.{Scanner}
-use Rattle.line.specs.Joined.{Mode, inFields, inComment, JoinedByte, kept, between, begins, leading, unquoted, parts, gives, joint, modeAfter, modeJoined, indented}
+use Rattle.line.specs.Joined.{Mode, inFields, inComment, JoinedByte, kept, between, begins, leading, unquoted, partsFields, gives, joinBlank, modeAfter, modeJoined, indented}
 use Rattle.line.specs.Scan.{quotingAtEnd}
-use Rattle.line.specs.Contract.{modeOf, quotingOf, joinsAt, inRun, Progress, progress, closedIf, closedOff, longer, absorbed, absorbedAll, Few, Bounded, ahead, joinedAt, Goes}
+use Rattle.line.specs.Contract.{modeOf, quotingOf, joinsAt, inRun, Progress, progress, closedIf, closedOff, longer, absorbed, absorbedAll, Few, Bounded, joinedAhead, joinedAt, Goes}
 use Rattle.line.proofs.JoinedLaws.{Steady, at-byte, at-join, at-run, indented-byte, indented-join, indented-run, begins-leading}
 use Rattle.line.proofs.ProgressLaws.{closed-of, quoting-byte, quoting-join, quoting-run, absorbed-append, absorbed-kept}
 
@@ -54,10 +54,10 @@ unfolding absorbedAll
 length-all p [] = refl
 length-all p (x ∷ j) = length-all (absorbed p x) j ∙ length-one p x
 
-joint-few : (m : Mode) (before : ℕ) → length (joint m before) ≤ 1
-unfolding joint
-joint-few inComment before = omega arith
-joint-few (inFields q) before = go (wordByte before)
+blank-few : (m : Mode) (before : ℕ) → length (joinBlank m before) ≤ 1
+unfolding joinBlank
+blank-few inComment before = omega arith
+blank-few (inFields q) before = go (wordByte before)
   where
     go : (t : Bool) → length (cond t (gives (inFields q) (byte " ") ∷ []) []) ≤ 1
     go true = omega arith
@@ -76,7 +76,7 @@ bare-join line i end t h e d =
 
 -- the runs
 steady-plain : Steady (inRun Plain) (inFields Outside) kept
-unfolding inRun modeAfter parts quotingAfter blank
+unfolding inRun modeAfter partsFields quotingAfter blank
 steady-plain = record {
   joinless = λ b e. told b e .1;
   stays = λ b e. let h : 39 < b = told b e .0 in rw (ne-eqb b 35 (λ z. omega arith), ne-eqb b 39 (λ z. omega arith), ne-eqb b 34 (λ z. omega arith));
@@ -87,7 +87,7 @@ steady-plain = record {
     told b e = let d = both-true (ltb 39 b) (not (is "\\" b)) e in (ltb-true 39 b (d .0), not-true _ (d .1))
 
 steady-comment : Steady (inRun NoBackslash) inComment (λ b. between)
-unfolding inRun modeAfter parts
+unfolding inRun modeAfter partsFields
 steady-comment = record { joinless = λ b e. not-true _ e; stays = λ b e. refl; mark = λ b e. refl }
 
 map-same : (s : List ℕ) → map (λ b. between) s ≡ replicate (length s) between
@@ -117,8 +117,8 @@ module _ {line : List ℕ} {s : Scanner} {text ends : List ℕ} where
 
   -- what is laid is what the joined line has up to where the other is
   goes-by : {r : Scanner} {text′ ends′ : List ℕ} (x : List JoinedByte) → Bounded line s → s .at + length x ≤ r .at → r .at ≤ length line → r .hash ≡ s .hash
-      → ahead line s ≡ x ++ ahead line r → progress (r .counts) text′ ends′ ≡ absorbedAll (progress (s .counts) text ends) x
-      → quotingAtEnd (quotingOf (modeOf (s .mode))) (x ++ ahead line r) ≡ quotingAtEnd (quotingOf (modeOf (r .mode))) (ahead line r)
+      → joinedAhead line s ≡ x ++ joinedAhead line r → progress (r .counts) text′ ends′ ≡ absorbedAll (progress (s .counts) text ends) x
+      → quotingAtEnd (quotingOf (modeOf (s .mode))) (x ++ joinedAhead line r) ≡ quotingAtEnd (quotingOf (modeOf (r .mode))) (joinedAhead line r)
       → r .bare || not (indented (drop (r .at) line)) ≡ s .bare || not (indented (drop (s .at) line)) → Goes line s text ends r text′ ends′
   goes-by {r} {text′} {ends′} x w h k hash a p q b =
       let f : Few (r .counts .joined) (r .counts .kept) (r .counts .fields) (s .at + length x) = rw (ap (λ (n : Progress). n .joined) p, ap (λ (n : Progress). n .kept) p, ap (λ (n : Progress). n .fields) p) (few-all (progress (s .counts) text ends) x (w .few)) in
@@ -127,7 +127,7 @@ module _ {line : List ℕ} {s : Scanner} {text ends : List ℕ} where
         bounded = record { within = k; few = few-more h f };
         same = ap (λ (n : Progress). length (n .text)) p ∙ length-all (progress (s .counts) text ends) x;
         hash = hash;
-        made = rw p (sym (absorbed-append (progress (s .counts) text ends) x (ahead line r))) ∙ ap (absorbedAll (progress (s .counts) text ends)) (sym a);
+        made = rw p (sym (absorbed-append (progress (s .counts) text ends) x (joinedAhead line r))) ∙ ap (absorbedAll (progress (s .counts) text ends)) (sym a);
         quotes = sym q ∙ ap (quotingAtEnd (quotingOf (modeOf (s .mode)))) (sym a);
         bares = b;
       }
@@ -142,11 +142,11 @@ module _ {line : List ℕ} {s : Scanner} {text ends : List ℕ} where
         goes-by (gives v b ∷ []) w (omega arith) (omega arith) refl (at-byte (s .hash) v line (s .at) h e ∙ rw f) p (rw f (quoting-byte v b (joinedAt (s .hash) (modeAfter v b) line (s .at + 1)))) (rw (indented-byte line (s .at) h e))
 
     pub goes-join : {n : Counts} {m : ScanMode} {text′ ends′ : List ℕ} (end : ℕ) → s .at < length line → joinsAt (drop (s .at) line) ≡ true → end ≡ s .at + 2 + leading blank (drop (s .at + 2) line) → end ≤ length line → modeOf m ≡ modeJoined (s .hash) (modeOf (s .mode))
-        → progress n text′ ends′ ≡ absorbedAll (progress (s .counts) text ends) (joint (modeOf (s .mode)) (getD (byte "\n" ∷ line) (s .at) 0)) → Goes line s text ends (record { at = end; mode = m; counts = n; bare = s .bare || eqb end (s .at + 2); hash = s .hash }) text′ ends′
+        → progress n text′ ends′ ≡ absorbedAll (progress (s .counts) text ends) (joinBlank (modeOf (s .mode)) (getD (byte "\n" ∷ line) (s .at) 0)) → Goes line s text ends (record { at = end; mode = m; counts = n; bare = s .bare || eqb end (s .at + 2); hash = s .hash }) text′ ends′
     goes-join {n} {m} end h e d k f p =
         let v = modeOf (s .mode) in
         let b = getD (byte "\n" ∷ line) (s .at) 0 in
-        goes-by (joint v b) w (omega (arith, joint-few v b)) k refl (at-join (s .hash) v line (s .at) h e ∙ rw (f, d)) p (rw f (quoting-join (s .hash) v b (joinedAt (s .hash) (modeJoined (s .hash) v) line end))) (bare-join line (s .at) end (s .bare) h e d)
+        goes-by (joinBlank v b) w (omega (arith, blank-few v b)) k refl (at-join (s .hash) v line (s .at) h e ∙ rw (f, d)) p (rw f (quoting-join (s .hash) v b (joinedAt (s .hash) (modeJoined (s .hash) v) line end))) (bare-join line (s .at) end (s .bare) h e d)
 
     -- bytes that need no step of their own
     goes-run : {f : ℕ → Bool} {g : ℕ → JoinedByte} {n : Counts} {m : ScanMode} {text′ ends′ : List ℕ} → Steady f (modeOf m) g → modeOf (s .mode) ≡ modeOf m → (end : ℕ) → end ≡ s .at + leading f (drop (s .at) line) → end ≤ length line

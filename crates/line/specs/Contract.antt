@@ -13,7 +13,7 @@ use Rattle.text.specs.Buffer.{laid}
 use Rattle.text.specs.Class.{blank}
 use Rattle.text.specs.declared.quote.Quoting.{Quoting}
 use Rattle.text.specs.declared.quote.Quoting.the-variants.{Outside}
-use Rattle.fault.specs.Fault.{Reading, fault, value}
+use Rattle.fault.specs.Fault.{Reading, fault, value, andThen}
 use Rattle.fault.specs.declared.Cause.{Cause}
 use Rattle.line.specs.declared.ends.End.{End}
 use Rattle.line.specs.declared.ends.End.the-variants.{At, Cut}
@@ -135,8 +135,8 @@ pub record Bounded (line : List ℕ) (s : Scanner) : Type 0 where
 abbrev pub joinedAt : Bool → Mode → List ℕ → ℕ → List JoinedByte
 joinedAt hash m line i = joinedFrom hash 0 m (getD (byte "\n" ∷ line) i 0) (drop i line)
 
-abbrev pub ahead : List ℕ → Scanner → List JoinedByte
-ahead line s = joinedAt (s .hash) (modeOf (s .mode)) line (s .at)
+abbrev pub joinedAhead : List ℕ → Scanner → List JoinedByte
+joinedAhead line s = joinedAt (s .hash) (modeOf (s .mode)) line (s .at)
 
 -- a scanner went on to another: the rest of the line makes the same of what both have laid, of their quoting and of their indents
 pub record Goes (line : List ℕ) (s : Scanner) (text ends : List ℕ) (r : Scanner) (text′ ends′ : List ℕ) : Type 0 where
@@ -144,8 +144,8 @@ pub record Goes (line : List ℕ) (s : Scanner) (text ends : List ℕ) (r : Scan
   pub bounded : Bounded line r
   pub same : length text′ ≡ length text
   pub hash : r .hash ≡ s .hash
-  pub made : absorbedAll (progress (r .counts) text′ ends′) (ahead line r) ≡ absorbedAll (progress (s .counts) text ends) (ahead line s)
-  pub quotes : quotingAtEnd (quotingOf (modeOf (r .mode))) (ahead line r) ≡ quotingAtEnd (quotingOf (modeOf (s .mode))) (ahead line s)
+  pub made : absorbedAll (progress (r .counts) text′ ends′) (joinedAhead line r) ≡ absorbedAll (progress (s .counts) text ends) (joinedAhead line s)
+  pub quotes : quotingAtEnd (quotingOf (modeOf (r .mode))) (joinedAhead line r) ≡ quotingAtEnd (quotingOf (modeOf (s .mode))) (joinedAhead line s)
   pub bares : r .bare || not (indented (drop (r .at) line)) ≡ s .bare || not (indented (drop (s .at) line))
 
 -- ---- the fields that a buffer and ends tell: they stand one behind the other, the first of them from `start` on
@@ -164,21 +164,17 @@ endsFrom n [] = []
 endsFrom n (f ∷ fs) = (n + length f) ∷ endsFrom (n + length f) fs
 
 -- the bytes of fields, one field behind the other
-unfoldable pub textOf : List (List ℕ) → List ℕ
-textOf [] = []
-textOf (f ∷ fs) = f ++ textOf fs
+unfoldable pub fieldsText : List (List ℕ) → List ℕ
+fieldsText [] = []
+fieldsText (f ∷ fs) = f ++ fieldsText fs
 
 -- ---- the answer
 abbrev pub counted : Reading Cause ℕ → ScannedLine
 counted (value n) = Good n
 counted (fault c) = Fault c
 
-abbrev pub toldBy : Reading Cause (List (List ℕ)) → ScannedLine
-toldBy (value fs) = Good (length fs)
-toldBy (fault c) = Fault c
-
 -- the line was scanned: the buffer begins with the bytes of its fields and the ends with theirs, so far as there is room, and what stood behind them stays
 pub record Scans (line text text′ ends ends′ : List ℕ) (r : ScannedLine) : Type 0 where
-  pub bytes : text′ ≡ laid text 0 (textOf (fieldsOf (joinedLine line)))
+  pub bytes : text′ ≡ laid text 0 (fieldsText (fieldsOf (joinedLine line)))
   pub places : ends′ ≡ laid ends 0 (take mostFields (endsFrom 0 (fieldsOf (joinedLine line))))
-  pub answer : r ≡ toldBy (scanned line)
+  pub answer : r ≡ counted (andThen (scanned line) (λ fs. value (length fs)))

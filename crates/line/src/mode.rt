@@ -6,7 +6,7 @@ use text::quote::quoting_after;
 ghost use mathlib.Core.Path.{_≡_};
 ghost use mathlib.Core.Bool.{cond};
 ghost use mathlib.Core.List.{[], _∷_};
-ghost use Rattle.line.specs.Joined.{unquoted, parts, gives, joint, modeAfter, modeJoined};
+ghost use Rattle.line.specs.Joined.{unquoted, partsFields, gives, joinBlank, modeAfter, modeJoined};
 ghost use Rattle.line.specs.Contract.{modeOf};
 
 pub enum ScanMode {
@@ -28,7 +28,7 @@ pub fn is_unquoted(quoting: Quoting) -> bool
 
 // Whether a byte stands between fields.
 pub fn parts_fields(mode: ScanMode, b: u8) -> bool
-    ensures { λ r. ⌜ r ≡ parts (modeOf mode) b ⌝ }
+    ensures { λ r. ⌜ r ≡ partsFields (modeOf mode) b ⌝ }
 {
     match mode {
         ScanMode::Fields(quoting) => is_unquoted(quoting) & ((b == b'#') | is_blank(b)),
@@ -68,7 +68,7 @@ pub fn mode_joined(hash: bool, mode: ScanMode) -> ScanMode
 
 // Whether a join behind a byte gives a blank.
 pub fn join_gives(mode: ScanMode, before: u8) -> bool
-    ensures { λ r. ⌜ joint (modeOf mode) before ≡ cond r (gives (modeOf mode) 32 ∷ []) [] ⌝ }
+    ensures { λ r. ⌜ joinBlank (modeOf mode) before ≡ cond r (gives (modeOf mode) 32 ∷ []) [] ⌝ }
 {
     match mode {
         ScanMode::Fields(_) => is_word_byte(before),

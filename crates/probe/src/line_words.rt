@@ -4,16 +4,13 @@ use super::output::put;
 use super::output::put_bytes;
 use super::output::put_number;
 use super::words::Words;
-use super::words::part;
+use fault::Cause;
 use line::ends::End;
 use line::ends::control_end;
-use line::fields::field_at;
-use line::fields::field_count;
+use line::fields::field;
 use line::kind::LineKind;
 use line::kind::kind_of;
 use line::refused::refused_byte;
-use line::scan::LineFault;
-use line::scan::Outcome;
 use line::scan::ScannedLine;
 use line::scan::scan_line;
 use text::slice::Found;
@@ -66,12 +63,14 @@ fn put_ends(table: &[u8], out: &mut [u8], n: usize) -> usize {
     m
 }
 
-fn put_fault(out: &mut [u8], n: usize, fault: LineFault) -> usize {
-    match fault {
-        LineFault::Long => put(out, n, b"fault long"),
-        LineFault::Indent => put(out, n, b"fault indent"),
-        LineFault::Quote => put(out, n, b"fault quote"),
-        LineFault::Fields => put(out, n, b"fault fields"),
+// The scan has no other faults.
+fn put_fault(out: &mut [u8], n: usize, cause: Cause) -> usize {
+    match cause {
+        Cause::LineLength => put(out, n, b"fault long"),
+        Cause::Indent => put(out, n, b"fault indent"),
+        Cause::OpenQuote => put(out, n, b"fault quote"),
+        Cause::FieldCount => put(out, n, b"fault fields"),
+        _ => n,
     }
 }
 
@@ -84,32 +83,41 @@ fn put_kind(out: &mut [u8], n: usize, kind: LineKind) -> usize {
 }
 
 // The fields, with a space before each.
-fn put_fields(scanned: ScannedLine, joined: &[u8], out: &mut [u8], n: usize) -> usize {
-    let count = field_count(scanned);
+fn put_fields<'a>(
+    joined: &'a [u8],
+    ends: &'a [usize; 64],
+    count: usize,
+    out: &mut [u8],
+    n: usize,
+) -> usize {
     let mut m = n;
     let mut i = 0;
     while i < count {
-        let bounds = field_at(scanned, i);
         let space = put(out, m, b" ");
-        m = put_bytes(out, space, part(joined, bounds.start, bounds.end));
+        m = put_bytes(out, space, field(joined, ends, count, i));
         i += 1;
     }
     m
 }
 
-fn put_scanned(scanned: ScannedLine, joined: &[u8], out: &mut [u8], n: usize) -> usize {
-    let kind = put_kind(out, n, kind_of(scanned, joined, 0));
-    put_fields(scanned, joined, out, kind)
+fn put_scanned<'a>(
+    joined: &'a [u8],
+    ends: &'a [usize; 64],
+    count: usize,
+    out: &mut [u8],
+    n: usize,
+) -> usize {
+    let kind = put_kind(out, n, kind_of(joined, ends, count, 0));
+    put_fields(joined, ends, count, out, kind)
 }
 
 // `line BYTES`: the kind of a control line and its fields as written, or its fault.
 fn put_line(line: &[u8], out: &mut [u8], n: usize) -> usize {
     let mut joined = io::buffer();
-    let scanned = scan_line(line, &mut joined);
-    let outcome = scanned.outcome;
-    match outcome {
-        Outcome::Fault(fault) => put_fault(out, n, fault),
-        Outcome::Good(_) => put_scanned(scanned, &joined, out, n),
+    let mut ends = [0; 64];
+    match scan_line(line, &mut joined, &mut ends) {
+        ScannedLine::Fault(cause) => put_fault(out, n, cause),
+        ScannedLine::Good(count) => put_scanned(&joined, &ends, count, out, n),
     }
 }
 

@@ -1,4 +1,4 @@
-use Rattle.line.specs.Joined.{parts, joint}
+use Rattle.line.specs.Joined.{partsFields, joinBlank}
 use borrow.Author.Needs.{needs}
 use Rattle.line.proofs.mode.join_gives.Statement.{statement}
 use Rattle.line.proofs.mode.join_gives.Tie as tie
@@ -16,11 +16,11 @@ enum-told-2 : tie.Need-enum-told-2
 enum-told-2 c = search needs
 
 returns : tie.Need-returns
-unfolding joint
+unfolding joinBlank
 returns c = simp (c .before .enum-told .given .1, c .is-word-byte .ensures)
 
 returns-2 : tie.Need-returns-2
-unfolding joint parts
+unfolding joinBlank partsFields
 returns-2 c = simp (c .enum-told2 .given .1)
 
 pub join-gives-spec : {M : Type 1} → statement M

@@ -1,4 +1,4 @@
-use Rattle.line.specs.Joined.{parts}
+use Rattle.line.specs.Joined.{partsFields}
 use borrow.Author.Needs.{needs}
 use Rattle.line.proofs.mode.parts_fields.Statement.{statement}
 use Rattle.line.proofs.mode.parts_fields.Tie as tie
@@ -20,11 +20,11 @@ enum-told : tie.Need-enum-told
 enum-told c = search needs
 
 returns : tie.Need-returns
-unfolding parts
+unfolding partsFields
 returns c = simp (c .before .before .before .mode .given .1, c .before .is-unquoted .ensures, c .is-blank .ensures)
 
 returns-2 : tie.Need-returns-2
-unfolding parts
+unfolding partsFields
 returns-2 c = simp (c .enum-told .given .1)
 
 pub parts-fields-spec : {M : Type 1} → statement M

@@ -6,19 +6,13 @@ use Rattle.probe.proofs.line_words.put_fields.Statement.{statement}
 use Rattle.probe.proofs.line_words.put_fields.Tie as tie
 
 abbrev Inv-loop : tie.InvT-loop
-Inv-loop scanned joined out₀ n count m₀ i₀ t10 out m i = length out ≡ length out₀
+Inv-loop joined ends count out₀ n m₀ i₀ out m i = length out ≡ length out₀
 
 abbrev μ-loop : tie.MeasureT-loop
-μ-loop scanned joined out₀ n count m₀ i₀ t10 out m i = count - i
-
-field-count-requires : tie.Need-field-count-requires Inv-loop μ-loop
-field-count-requires c κs = search needs
+μ-loop joined ends count out₀ n m₀ i₀ out m i = count - i
 
 loop-holds : tie.Need-loop-holds Inv-loop μ-loop
 loop-holds c = search needs
-
-field-at-requires : tie.Need-field-at-requires Inv-loop μ-loop
-field-at-requires c κs = search needs
 
 slice-aggregate-put : tie.Need-slice-aggregate-put Inv-loop μ-loop
 slice-aggregate-put c = search needs
@@ -26,8 +20,8 @@ slice-aggregate-put c = search needs
 put-requires : tie.Need-put-requires Inv-loop μ-loop
 put-requires c κs = search needs
 
-part-requires : tie.Need-part-requires Inv-loop μ-loop
-part-requires c κs = search needs
+field-requires : tie.Need-field-requires Inv-loop μ-loop
+field-requires c κs = search needs
 
 put-bytes-requires : tie.Need-put-bytes-requires Inv-loop μ-loop
 put-bytes-requires c κs = search needs
@@ -53,12 +47,10 @@ put-fields-spec =
     (tie.spec
     Inv-loop
     μ-loop
-    field-count-requires
     loop-holds
-    field-at-requires
     slice-aggregate-put
     put-requires
-    part-requires
+    field-requires
     put-bytes-requires
     add-i
     loop-less
