@@ -78,6 +78,7 @@ fn cause_for(asks: Asks) -> Cause
 
 // One alternative more.
 fn add_one(
+    minute: WeekMinute,
     asks: Asks,
     negated: bool,
     judging: bool,
@@ -85,12 +86,11 @@ fn add_one(
     user: &[u8],
     groups: &[u8],
     host: &[u8],
-    minute: WeekMinute,
     kept: Rightmost,
 ) -> Added
     ensures { λ r. ⌜ r ≡ addedBy kept (readAll (alternativeRead (judgeBy judging (now (user .entry)) (now (groups .entry)) (now (host .entry)) (minute .0)) negated (sortIn asks)) (now (e .entry) ∷ [])) ⌝ }
 {
-    match judge(asks, judging, e, user, groups, host, minute) {
+    match judge(asks, judging, minute, e, user, groups, host) {
         Judgement::Malformed => Added::Fault(cause_for(asks)),
         Judgement::Applies => Added::Kept(kept.add(negated, true)),
         Judgement::Misses => Added::Kept(kept.add(negated, false)),
@@ -100,6 +100,7 @@ fn add_one(
 // All expansions of a pattern that has so many.
 fn add_all(
     syntax: Syntax,
+    minute: WeekMinute,
     asks: Asks,
     negated: bool,
     judging: bool,
@@ -108,7 +109,6 @@ fn add_all(
     user: &[u8],
     groups: &[u8],
     host: &[u8],
-    minute: WeekMinute,
     kept: Rightmost,
 ) -> Added
     requires { ⌜ (length (now p) ≤ 1024) × (number ≡ length (expansionsOf syntax (now p))) ⌝ }
@@ -121,6 +121,7 @@ fn add_all(
         match expansion(syntax, p, k, &mut out) {
             Filled::Done(n) => {
                 match add_one(
+                    minute,
                     asks,
                     negated,
                     judging,
@@ -128,7 +129,6 @@ fn add_all(
                     user,
                     groups,
                     host,
-                    minute,
                     r,
                 ) {
                     Added::Kept(next) => {
@@ -150,6 +150,7 @@ fn add_all(
 
 // The alternatives of a pattern: well formed, then depth and number, then each in order.
 fn add_alternatives(
+    minute: WeekMinute,
     asks: Asks,
     negated: bool,
     judging: bool,
@@ -157,7 +158,6 @@ fn add_alternatives(
     user: &[u8],
     groups: &[u8],
     host: &[u8],
-    minute: WeekMinute,
     kept: Rightmost,
 ) -> Added
     requires { ⌜ length (now p) ≤ 1024 ⌝ }
@@ -165,12 +165,13 @@ fn add_alternatives(
 {
     let syntax = kind_for(asks);
     if is_flat(syntax, p) {
-        return add_one(asks, negated, judging, p, user, groups, host, minute, kept);
+        return add_one(minute, asks, negated, judging, p, user, groups, host, kept);
     }
     match read_expansions(syntax, p) {
         Expanded::Fault(cause) => Added::Fault(cause),
         Expanded::Number(number) => add_all(
             syntax,
+            minute,
             asks,
             negated,
             judging,
@@ -179,7 +180,6 @@ fn add_alternatives(
             user,
             groups,
             host,
-            minute,
             kept,
         ),
     }
@@ -210,15 +210,15 @@ fn told(asks: Asks, added: Added) -> ConditionRead
 
 // A condition behind its `!`.
 fn read_behind(
+    users: Rightmost,
+    times: Rightmost,
     negated: bool,
-    text: &[u8],
     judging: bool,
+    minute: WeekMinute,
+    text: &[u8],
     user: &[u8],
     groups: &[u8],
     host: &[u8],
-    minute: WeekMinute,
-    users: Rightmost,
-    times: Rightmost,
 ) -> ConditionRead
     requires { ⌜ length (now text) ≤ 1024 ⌝ }
     ensures { λ r. ⌜ r ≡ conditionRead users times (conditionBehind (judgeBy judging (now (user .entry)) (now (groups .entry)) (now (host .entry)) (minute .0)) negated (now (text .entry))) ⌝ }
@@ -232,6 +232,7 @@ fn read_behind(
     told(
         asks,
         add_alternatives(
+            minute,
             asks,
             negated,
             judging,
@@ -239,7 +240,6 @@ fn read_behind(
             user,
             groups,
             host,
-            minute,
             kept_for(asks, users, times),
         ),
     )
@@ -263,26 +263,16 @@ pub fn read_condition(
     }
     if head_is(text, b'!') {
         return read_behind(
+            users,
+            times,
             true,
-            &text[1..],
             judging,
+            minute,
+            &text[1..],
             user,
             groups,
             host,
-            minute,
-            users,
-            times,
         );
     }
-    read_behind(
-        false,
-        text,
-        judging,
-        user,
-        groups,
-        host,
-        minute,
-        users,
-        times,
-    )
+    read_behind(users, times, false, judging, minute, text, user, groups, host)
 }

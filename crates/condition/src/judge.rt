@@ -104,11 +104,11 @@ fn judge_time(judging: bool, e: &[u8], minute: WeekMinute) -> Judgement
 pub fn judge(
     asks: Asks,
     judging: bool,
+    minute: WeekMinute,
     e: &[u8],
     user: &[u8],
     groups: &[u8],
     host: &[u8],
-    minute: WeekMinute,
 ) -> Judgement
     ensures { λ r. ⌜ r ≡ judgementOf (judgeBy judging (now (user .entry)) (now (groups .entry)) (now (host .entry)) (minute .0) (sortIn asks) (now (e .entry))) ⌝ }
 {

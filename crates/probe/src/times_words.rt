@@ -9,7 +9,7 @@ use question::WeekMinute;
 use text::slice::equal;
 use times::item::ItemAnswer;
 use times::item::item_answer;
-use times::rule::TimeRule;
+use condition::rightmost::Rightmost;
 
 fn item(s: &[u8], minute: u64, out: &mut [u8], n: usize) -> Answer {
     if minute >= 10080 {
@@ -57,19 +57,19 @@ fn verdict_of(s: &[u8]) -> Verdict {
 }
 
 enum Rule {
-    Is(TimeRule),
+    Is(Rightmost),
     Malformed,
 }
 
 fn rule_of(line: &[u8], words: Words) -> Rule {
     let count = words.number();
-    let mut rule = TimeRule::new();
+    let mut rule = Rightmost::new();
     let mut i = 1;
     while i < count {
         let Verdict::Is(negated, matches) = verdict_of(words.written(i, line)) else {
             return Rule::Malformed;
         };
-        rule = rule.item(negated, matches);
+        rule = rule.add(negated, matches);
         i += 1;
     }
     Rule::Is(rule)
@@ -80,7 +80,7 @@ fn time_rule(line: &[u8], words: Words, out: &mut [u8], n: usize) -> Answer {
     let Rule::Is(rule) = rule_of(line, words) else {
         return Answer::BadLine;
     };
-    if rule.accepted() {
+    if rule.times_accept() {
         return Answer::To(put(out, n, b"accepted"));
     }
     Answer::To(put(out, n, b"refused"))

@@ -13,7 +13,8 @@ use lib.Dec.{leb}
 use Rattle.text.proofs.Laws.{next}
 use Rattle.text.specs.declared.buffer.Filled.{Filled}
 use Rattle.text.specs.declared.buffer.Filled.the-variants.{Done, Full}
-use Rattle.text.specs.Contract.{laid, filledTo, Wrote}
+use Rattle.text.specs.Buffer.{laid}
+use Rattle.text.specs.Contract.{filledTo, Wrote}
 
 pub laid-length : (out : List ℕ) (n : ℕ) (xs : List ℕ) → length (laid out n xs) ≡ length out
 unfolding laid

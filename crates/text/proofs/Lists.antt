@@ -8,7 +8,7 @@ use native.Mathlib.Omega.{arith}
 use borrow.Author.Tests.{eq-eqb}
 use lib.Dec.{eqb}
 use lib.ListN.{length, take, drop, getD, drop-of-length-le}
-use Rattle.text.specs.Lists.{all, any, firstOf, has}
+use Rattle.text.specs.Lists.{all, any, has}
 use Rattle.text.specs.Contract.{findByte}
 use Rattle.text.specs.Parts.{partAt}
 use Rattle.text.specs.declared.slice.Found.the-variants.{At, Nothing}
@@ -58,14 +58,6 @@ module _ {A : Type 0} (f : A → Bool) where
   any-at z [] i h e = absurd (omega arith)
   any-at z (x ∷ s) zero h e = rw e
   any-at z (x ∷ s) (suc i) h e = either-of (f x) (any f s) (any-at z s i (omega arith) e)
-
-pub first-assoc : {A : Type 0} (a b c : Option A) → firstOf (firstOf a b) c ≡ firstOf a (firstOf b c)
-first-assoc none b c = refl
-first-assoc (some x) b c = refl
-
-pub first-none : {A : Type 0} (a : Option A) → firstOf a none ≡ a
-first-none none = refl
-first-none (some x) = refl
 
 pub has-at : (c : ℕ) (s : List ℕ) (i : ℕ) → i < length s → getD s i 0 ≡ c → has c s ≡ true
 unfolding has

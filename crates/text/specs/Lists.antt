@@ -2,7 +2,6 @@
 use Prim.Native.Nat.{ℕ, suc}
 use mathlib.Core.Bool.{Bool, true, false, cond, _&&_, _||_}
 use mathlib.Core.List.{List, [], _∷_, _++_}
-use mathlib.Core.Option.{Option, none, some}
 use lib.Dec.{eqb}
 
 module _ {A : Type 0} where
@@ -25,11 +24,6 @@ module _ {A : Type 0} where
   unfoldable pub count : (A → Bool) → List A → ℕ
   count f [] = 0
   count f (x ∷ xs) = cond (f x) (suc (count f xs)) (count f xs)
-
-  -- the first that is something
-  abbrev pub firstOf : Option A → Option A → Option A
-  firstOf none o = o
-  firstOf (some x) o = some x
 
 -- the byte is there
 unfoldable pub has : ℕ → List ℕ → Bool

@@ -14,13 +14,13 @@ use Rattle.text.specs.declared.slice.Found.the-variants.{At, Nothing}
 use Rattle.text.proofs.Laws.{bind-none, bind-some}
 use Rattle.text.proofs.Leads.{found-parts, found-none}
 use Rattle.text.proofs.Numbers.{number-read}
-use Rattle.times.specs.Clock.{lastMinute, notAbove, hourOf, minuteOf, minuteAt, clockParts, clockOf}
+use Rattle.times.specs.Clock.{lastMinute, notPast, hourOf, minuteOf, minuteAt, clockParts, clockOf}
 
 -- a number and its limit
-pub above : (most v : ℕ) → most < v → none ≡ notAbove most v
+pub above : (most v : ℕ) → most < v → none ≡ notPast most v
 above most v h = rw (lt-leb v most h)
 
-pub not-above : (most v : ℕ) → v ≤ most → some v ≡ notAbove most v
+pub not-above : (most v : ℕ) → v ≤ most → some v ≡ notPast most v
 not-above most v h = rw (le-leb v most h)
 
 module _ (s : List ℕ) where
@@ -37,18 +37,18 @@ module _ (s : List ℕ) where
   minute-other h = rw (ne-eqb (length s) 2 h)
 
   module _ {r : Number} (h : length s ≡ 2) (e : r ≡ numberOf s) where
-    spelled : bind (numberRead r) (notAbove lastMinute) ≡ minuteOf s
+    spelled : bind (numberRead r) (notPast lastMinute) ≡ minuteOf s
     unfolding minuteOf
     spelled = rw (eq-eqb (length s) 2 h, number-read s e)
 
     pub minute-none : r ≡ Malformed → none ≡ minuteOf s
-    minute-none f = bind-none (notAbove lastMinute) (ap numberRead f) ∙ spelled
+    minute-none f = bind-none (notPast lastMinute) (ap numberRead f) ∙ spelled
 
     pub minute-late : {m : ℕ} → r ≡ Value m → lastMinute < m → none ≡ minuteOf s
-    minute-late {m} f k = bind-some (notAbove lastMinute) (ap numberRead f) (above lastMinute m k) ∙ spelled
+    minute-late {m} f k = bind-some (notPast lastMinute) (ap numberRead f) (above lastMinute m k) ∙ spelled
 
     pub minute-in : {m : ℕ} → r ≡ Value m → m ≤ lastMinute → some m ≡ minuteOf s
-    minute-in {m} f k = bind-some (notAbove lastMinute) (ap numberRead f) (not-above lastMinute m k) ∙ spelled
+    minute-in {m} f k = bind-some (notPast lastMinute) (ap numberRead f) (not-above lastMinute m k) ∙ spelled
 
 -- the hour alone, or the hour and the minute
 module _ (s : List ℕ) (r : Found) (f : r ≡ findByte 58 0 s) where

@@ -1,4 +1,3 @@
 pub mod Clocks
 pub mod Days
 pub mod Items
-pub mod Rules

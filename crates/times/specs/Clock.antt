@@ -18,8 +18,8 @@ abbrev pub lastMinute : ℕ
 lastMinute = 59
 
 -- the number, where it is not above `most`
-abbrev pub notAbove : ℕ → ℕ → Option ℕ
-notAbove most v = cond (leb v most) (some v) none
+abbrev pub notPast : ℕ → ℕ → Option ℕ
+notPast most v = cond (leb v most) (some v) none
 
 -- "hh has one or two digits"
 unfoldable pub hourOf : List ℕ → Option ℕ
@@ -29,11 +29,11 @@ hourOf s = cond (leb (length s) 2) (decimalOf s) none
 -- "mm two (to 59)"
 unfoldable pub minuteOf : List ℕ → Option ℕ
 unfolding decimalOf bind
-minuteOf s = cond (eqb (length s) 2) (bind (decimalOf s) (notAbove lastMinute)) none
+minuteOf s = cond (eqb (length s) 2) (bind (decimalOf s) (notPast lastMinute)) none
 
 -- the minute of the day, where it is not after 24:00
 abbrev pub minuteAt : Option ℕ → Option ℕ → Option ℕ
-minuteAt hour minute = bind hour (λ h. bind minute (λ m. notAbove dayMinutes (h * 60 + m)))
+minuteAt hour minute = bind hour (λ h. bind minute (λ m. notPast dayMinutes (h * 60 + m)))
 
 -- the hour before the colon and the minute behind it; without a colon the hour alone
 abbrev pub clockParts : List ℕ → Option Parts → Option ℕ

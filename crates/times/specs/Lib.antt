@@ -2,4 +2,3 @@ pub mod Day
 pub mod Clock
 pub mod Item
 pub mod Contract
-pub mod Rule

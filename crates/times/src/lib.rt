@@ -3,4 +3,3 @@ pub mod clock; // clock times
 pub mod day; // day names
 pub mod item; // time items, and the minutes that they match
 pub mod period; // the minutes of the day of an item
-pub mod rule; // the rule over the items of an entry

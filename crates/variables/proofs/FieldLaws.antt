@@ -10,7 +10,8 @@ use native.Mathlib.Decide.{decLe}
 use borrow.Author.Tests.{le-leb, lt-leb}
 use lib.ListN.{length, take, drop, getD, length-append, length-drop}
 use lib.Seq.{drop-drop}
-use Rattle.text.specs.Contract.{laid, Wrote}
+use Rattle.text.specs.Buffer.{laid}
+use Rattle.text.specs.Contract.{Wrote}
 use Rattle.text.specs.Quote.{quotingAfter}
 use Rattle.text.specs.Slice.{headIs}
 use Rattle.text.specs.declared.buffer.Filled.{Filled}

@@ -6,7 +6,7 @@ use mathlib.Core.Option.{Option, none, some}
 use Prim.Native.Nat.{ℕ, zero, suc, _+_, _*_, _-_, _≤_, _<_, min}
 use lib.Dec.{leb}
 use lib.ListN.{length, take, drop, getD}
-use Rattle.text.specs.Contract.{laid}
+use Rattle.text.specs.Buffer.{laid}
 use Rattle.text.specs.Limits.{fieldLimit}
 use Rattle.text.specs.Lists.{all}
 use Rattle.text.specs.Quote.{quotingAfter}

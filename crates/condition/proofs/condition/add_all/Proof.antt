@@ -19,10 +19,10 @@ use Rattle.condition.proofs.condition.add_one.Reads as add-one-reads
 use Rattle.pattern.proofs.expand.expansion.Reads as expansion-reads
 
 abbrev Inv-loop : tie.InvT-loop
-Inv-loop kind asks negated judging p number user groups host minute out₀ r₀ k₀ out r k = (length out ≡ 1024) × (addedBy r (readAll (alternativeRead (judgeBy judging user groups host (minute .0)) negated (sortIn asks)) (drop k (expansionsOf kind p))) ≡ addedBy r₀ (readAll (alternativeRead (judgeBy judging user groups host (minute .0)) negated (sortIn asks)) (expansionsOf kind p)))
+Inv-loop kind minute asks negated judging p number user groups host out₀ r₀ k₀ out r k = (length out ≡ 1024) × (addedBy r (readAll (alternativeRead (judgeBy judging user groups host (minute .0)) negated (sortIn asks)) (drop k (expansionsOf kind p))) ≡ addedBy r₀ (readAll (alternativeRead (judgeBy judging user groups host (minute .0)) negated (sortIn asks)) (expansionsOf kind p)))
 
 abbrev μ-loop : tie.MeasureT-loop
-μ-loop kind asks negated judging p number user groups host minute out₀ r₀ k₀ out r k = number - k
+μ-loop kind minute asks negated judging p number user groups host out₀ r₀ k₀ out r k = number - k
 
 loop-holds : tie.Need-loop-holds Inv-loop μ-loop
 loop-holds c = (length-replicate {A = ℕ} 1024 0, refl)

@@ -1,7 +1,7 @@
 use mathlib.Core.Path.{refl, sym}
 use native.Mathlib.Omega.{arith}
 use borrow.Author.Needs.{needs}
-use Rattle.text.specs.Contract.{laid}
+use Rattle.text.specs.Buffer.{laid}
 use Rattle.text.proofs.Buffers.{laid-past, done-up, full-up}
 use Rattle.text.proofs.buffer.put.Statement.{statement}
 use Rattle.text.proofs.buffer.put.Tie as tie

@@ -2,7 +2,7 @@ use mathlib.Core.Path.{_≡_, refl, sym, ap, _∙_}
 use Prim.Native.Nat.{_+_, _-_, _≤_}
 use native.Mathlib.Omega.{arith}
 use lib.ListN.{length, drop, length-set}
-use Rattle.text.specs.Contract.{laid}
+use Rattle.text.specs.Buffer.{laid}
 use Rattle.text.specs.declared.buffer.Filled.the-variants.{Done}
 use Rattle.text.proofs.Buffers.{done-up, full-up, laid-next, laid-end, laid-past}
 use Rattle.text.proofs.buffer.put_all.Statement.{statement}
