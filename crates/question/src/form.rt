@@ -49,6 +49,7 @@ fn components_are_good(s: &[u8]) -> bool
     true
 }
 
+// Whether s is a good command.
 pub fn command_is_good(s: &[u8]) -> bool
     ensures { λ r. ⌜ r ≡ goodCommand (now (s .entry)) ⌝ }
 {
@@ -77,6 +78,7 @@ pub fn name_is_good(s: &[u8], most: usize) -> bool
     all_in(s, Alphabet::Name)
 }
 
+// Whether s is a good argument.
 pub fn argument_is_good(s: &[u8]) -> bool
     ensures { λ r. ⌜ r ≡ goodArgument (now (s .entry)) ⌝ }
 {

@@ -15,6 +15,7 @@ impl Command {
 pub struct User;
 
 impl User {
+    // The most bytes of one.
     pub const BYTES: usize = 32;
 }
 
@@ -22,6 +23,7 @@ impl User {
 pub struct Host;
 
 impl Host {
+    // The most bytes of one.
     pub const BYTES: usize = 255;
 }
 
@@ -37,6 +39,7 @@ impl Groups {
 pub struct Argument;
 
 impl Argument {
+    // The most bytes of one.
     pub const BYTES: usize = 256;
 }
 
@@ -44,6 +47,7 @@ impl Argument {
 pub struct Arguments;
 
 impl Arguments {
+    // The most arguments.
     pub const MOST: usize = 64;
 }
 

@@ -22,6 +22,7 @@ fn is_fresh(timeout: i32, last: LastAuthentication) -> bool
     }
 }
 
+// Whether a password is needed: auth is set, and the last authentication is not fresh.
 pub fn password_needed(auth: bool, timeout: i32, last: LastAuthentication) -> bool
     ensures { λ r. ⌜ r ≡ passwordNeeded auth timeout last ⌝ }
 {

@@ -107,6 +107,12 @@ module _ (c : ℕ) (s : List ℕ) (from end : ℕ) (e : end ≡ from + lead c (d
   pub split-last : length s ≤ end → splitAt c (drop from s) ≡ drop from s ∷ []
   split-last h = split-none c (drop from s) (lead-past h)
 
+  pub part-at : end < length s → partAt c (drop from s) ≡ some (record { front = take (end - from) (drop from s); back = drop (end + 1) s })
+  part-at = from-place (partAt c) (λ p t. some (record { front = p; back = t })) (parted-lead c)
+
+  pub part-last : length s ≤ end → partAt c (drop from s) ≡ none
+  part-last h = parted-none c (drop from s) (lead-past h)
+
   -- what stands at the end told, and that no c stands before it
   pub reach-stop : end < length s → getD s end 0 ≡ c
   reach-stop h = let k : lead c (drop from s) < length (drop from s) = omega (arith, length-drop from s) in ap (λ (i : ℕ). getD s i 0) e ∙ sym (getD-drop from s (lead c (drop from s)) 0) ∙ lead-at c (drop from s) k

@@ -7,6 +7,7 @@ ghost use mathlib.Core.Path.{_≡_};
 ghost use Rattle.text.specs.Lists.{all};
 ghost use Rattle.text.specs.Contract.{inAlphabet};
 
+// The bytes that a kind of text is made of.
 pub enum Alphabet {
     // Letters, digits, `.`, `_`, `-`: users, groups and hosts.
     Name,

@@ -2,6 +2,7 @@
 ghost use mathlib.Core.List.{[], _∷_};
 ghost use Rattle.text.specs.Contract.{Wrote};
 
+// How far the buffer is filled.
 pub enum Filled {
     // The place after the last byte.
     Done(usize),

@@ -4,6 +4,7 @@ ghost use Prim.Native.Nat.{_≤_, min};
 ghost use mathlib.Core.Path.{_≡_};
 ghost use Rattle.text.specs.Number.{numberOf};
 
+// A number read from digits.
 pub enum Number {
     Value(u32),
     Malformed,
@@ -14,6 +15,7 @@ impl Number {
     pub const DIGITS: usize = 5;
 }
 
+// The byte as a wider number.
 fn wide(b: u8) -> u32
     ensures { λ r. ⌜ r ≡ b ⌝ }
 {

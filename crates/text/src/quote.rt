@@ -2,6 +2,7 @@
 ghost use mathlib.Core.Path.{_≡_};
 ghost use Rattle.text.specs.Quote.{quotingAfter};
 
+// Where a byte stands: outside quotes, or inside a kind of them.
 pub enum Quoting {
     Outside,
     Single,

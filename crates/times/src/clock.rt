@@ -9,6 +9,7 @@ ghost use Rattle.text.specs.Contract.{numberRead};
 ghost use Rattle.times.specs.Clock.{hourOf, minuteOf, minuteAt, clockOf};
 ghost use Rattle.times.specs.Contract.{clockRead};
 
+// A clock time that was read.
 pub enum ClockRead {
     // The minute of the day; 24:00 is 1,440.
     At(u16),
@@ -63,6 +64,7 @@ fn clock_at(hour: Number, minute: Number) -> ClockRead
     ClockRead::At(at as u16)
 }
 
+// The clock time that s writes.
 pub fn read_clock(s: &[u8]) -> ClockRead
     ensures { λ r. ⌜ clockRead r ≡ clockOf (now (s .entry)) ⌝ }
 {

@@ -19,15 +19,17 @@ impl Day {
     pub const LETTERS: usize = 3;
 }
 
+// A day that was read.
 pub enum DayRead {
     Is(Day),
     Malformed,
 }
 
-// The names, nine bytes for each, and their lengths.
+// The names, nine bytes for each.
 const NAMES: [u8; 63] =
     *b"monday\0\0\0tuesday\0\0wednesdaythursday\0friday\0\0\0saturday\0sunday\0\0\0";
 
+// The lengths of the names.
 const LENGTHS: [usize; 7] = [6, 7, 9, 8, 6, 8, 6];
 
 // The i-th letter of the name of day d.
@@ -78,6 +80,7 @@ fn is_short_for(s: &[u8], d: usize) -> bool
     true
 }
 
+// The day that s names.
 pub fn read_day(s: &[u8]) -> DayRead
     ensures { λ r. ⌜ dayRead r ≡ dayOf (now (s .entry)) ⌝ }
 {

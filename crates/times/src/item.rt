@@ -14,11 +14,13 @@ ghost use mathlib.Core.Option.{none};
 ghost use Rattle.times.specs.Item.{itemFrom, itemParts, itemOf, onDay, itemMatches};
 ghost use Rattle.times.specs.Contract.{dayRead, periodRead, itemRead, itemAnswer};
 
+// The minutes of the week: a period on its days.
 pub struct TimeItem {
     pub period: Period,
     pub day: Day,
 }
 
+// An item that was read.
 pub enum ItemRead {
     Item(TimeItem),
     Malformed,
@@ -61,6 +63,7 @@ fn read_alone(s: &[u8]) -> ItemRead
     item_from(read_period(s), DayRead::Is(Day::Every))
 }
 
+// The item that s writes.
 pub fn read_item(s: &[u8]) -> ItemRead
     ensures { λ r. ⌜ itemRead r ≡ itemOf (now (s .entry)) ⌝ }
 {
@@ -71,6 +74,7 @@ pub fn read_item(s: &[u8]) -> ItemRead
     item_from(read_period(&s[0..slash]), read_day(&s[after..]))
 }
 
+// Whether day d is one of the days.
 fn is_on_day(day: Day, d: u32) -> bool
     ensures { λ r. ⌜ r ≡ onDay day d ⌝ }
 {

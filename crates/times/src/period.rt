@@ -20,6 +20,7 @@ impl Period {
     pub const DAY: u32 = 1440;
 }
 
+// A period that was read.
 pub enum PeriodRead {
     Is(Period),
     Malformed,
@@ -86,6 +87,7 @@ fn from_to(start: ClockRead, last: ClockRead) -> PeriodRead
     })
 }
 
+// `hh[:mm]-hh[:mm]`.
 fn read_clock_range(s: &[u8]) -> PeriodRead
     ensures { λ r. ⌜ periodRead r ≡ clockRange (now (s .entry)) ⌝ }
 {
@@ -96,6 +98,7 @@ fn read_clock_range(s: &[u8]) -> PeriodRead
     from_to(read_clock(&s[0..dash]), read_clock(&s[after..]))
 }
 
+// `<`, `>`, `<=`, `>=` with a clock time, or a range.
 pub fn read_period(s: &[u8]) -> PeriodRead
     ensures { λ r. ⌜ periodRead r ≡ periodOf (now (s .entry)) ⌝ }
 {
