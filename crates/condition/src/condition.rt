@@ -274,5 +274,15 @@ pub fn read_condition(
             host,
         );
     }
-    read_behind(users, times, false, judging, minute, text, user, groups, host)
+    read_behind(
+        users,
+        times,
+        false,
+        judging,
+        minute,
+        text,
+        user,
+        groups,
+        host,
+    )
 }

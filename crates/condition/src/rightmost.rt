@@ -15,7 +15,6 @@ pub struct Rightmost {
     pub some: bool,
 }
 
-
 fn and(a: bool, b: bool) -> bool
     ensures { λ r. ⌜ r ≡ a && b ⌝ }
 {

@@ -61,7 +61,14 @@ fn pattern(line: &[u8], words: Words, bytes: &[u8], out: &mut [u8], n: usize) ->
 }
 
 // What a pattern that was read says of a name.
-fn put_match(kind: Syntax, size: Pattern, p: &[u8], name: &[u8], out: &mut [u8], n: usize) -> Answer {
+fn put_match(
+    kind: Syntax,
+    size: Pattern,
+    p: &[u8],
+    name: &[u8],
+    out: &mut [u8],
+    n: usize,
+) -> Answer {
     if !size.fits() {
         return Answer::To(put(out, n, b"over"));
     }

@@ -5,11 +5,11 @@ use super::output::Answer;
 use super::output::put;
 use super::output::yes_or_no;
 use super::words::Words;
+use condition::rightmost::Rightmost;
 use question::WeekMinute;
 use text::slice::equal;
 use times::item::ItemAnswer;
 use times::item::item_answer;
-use condition::rightmost::Rightmost;
 
 fn item(s: &[u8], minute: u64, out: &mut [u8], n: usize) -> Answer {
     if minute >= 10080 {
