@@ -15,6 +15,7 @@ use Rattle.answer.specs.declared.Answer.the-variants.{Permit, Password, 
 abbrev pub tableLimit : ℕ
 tableLimit = 32768
 
+-- 17: "answer buffer under 2,048 bytes"
 abbrev pub leastBuffer : ℕ
 leastBuffer = 2048
 

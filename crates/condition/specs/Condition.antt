@@ -28,6 +28,7 @@ pub record Prefixed : Type 0 where
   pub written : Bool
   pub pattern : List ℕ
 
+-- a condition behind its `!`, by its three parts
 abbrev pub behindPrefix : Sort → Bool → List ℕ → Prefixed
 behindPrefix s w p = record { sort = s; written = w; pattern = p }
 

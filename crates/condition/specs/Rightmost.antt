@@ -8,6 +8,7 @@ pub record Judged : Type 0 where
   pub negated : Bool
   pub applies : Bool
 
+-- an alternative by its two tests
 abbrev pub judged : Bool → Bool → Judged
 judged n a = record { negated = n; applies = a }
 

@@ -31,6 +31,7 @@ pub record Entry : Type 0 where
   pub times : List Judged
   pub settings : List Setting
 
+-- an entry by its four sorts of fields
 abbrev pub entry : List Pair → List Judged → List Judged → List Setting → Entry
 entry ps us ts ss = record { pairs = ps; users = us; times = ts; settings = ss }
 
@@ -53,9 +54,11 @@ pub record FieldRead : Type 0 where
   pub part : Entry
   pub next : Position
 
+-- what a field holds and where the next one stands, by these two
 abbrev pub fieldRead : Entry → Position → FieldRead
 fieldRead e p = record { part = e; next = p }
 
+-- an entry of one pair
 abbrev pub aPair : List (List ℕ) → List ℕ → Entry
 aPair es p = entry (record { expansions = es; path = p } ∷ []) [] [] []
 
@@ -69,6 +72,7 @@ conditionPart time xs = entry [] [] xs []
 unfoldable pub fullPath : List ℕ → Reading Cause (List ℕ)
 fullPath p = require (headIs (byte "/") p && not (any blank p)) Path (value p)
 
+-- whether a search found a place
 abbrev pub found : Found → Bool
 found (At i) = true
 found Nothing = false
@@ -85,6 +89,7 @@ pairAt t (At i) =
     andThen (fullPath (drop (i + 2) t)) (λ p.
     value (fieldRead (aPair es p) pairs)))
 
+-- a field that is a pair
 unfoldable pub pairOf : List ℕ → Reading Cause FieldRead
 pairOf t = pairAt t (findPair (byte ":") (byte ":") 0 t)
 
@@ -101,6 +106,7 @@ abbrev pub optionOr : Judge → List ℕ → Option (Reading Cause Setting) → 
 optionOr judge t (some r) = andThen r (λ s. require (not (hasPair t)) LatePair (value (fieldRead (entry [] [] [] (s ∷ [])) rest)))
 optionOr judge t none = andThen (conditionOf judge t) (λ c. value (fieldRead (conditionPart (c .sort) (c .alternatives)) rest))
 
+-- a field behind the path or the pairs: "options" or "conditions"
 unfoldable pub otherOf : Judge → List ℕ → Reading Cause FieldRead
 otherOf judge t = optionOr judge t (optionOf false t)
 

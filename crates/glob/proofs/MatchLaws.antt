@@ -13,7 +13,7 @@ use Rattle.text.specs.Lists.{null, any}
 use Rattle.text.specs.Parts.{Parts, partAt}
 use Rattle.text.proofs.Laws.{next, clash}
 use Rattle.glob.specs.Set.{inSet}
-use Rattle.glob.specs.Contract.{lead}
+use Rattle.text.specs.Contract.{lead}
 use Rattle.glob.specs.Match.{Token, anyRun, anyByte, noByte, thisByte, byteOf, Sign, star, question, backslash, bracket, ordinary, signOf, tokens, escapedTokens, setTokens, tails, matchTokens, matches}
 use Rattle.glob.proofs.SetLaws.{FirstFrom, first-from}
 

@@ -15,22 +15,10 @@ use Rattle.text.specs.Parts.{Parts, partAt}
 use Rattle.text.specs.Slice.{headIs}
 use Rattle.text.proofs.Laws.{next, pick-of}
 use Rattle.glob.specs.Set.{ranges, members, rising, goodSet, covered, inSet}
-use Rattle.glob.specs.Contract.{lead, RangeAt}
+use Rattle.text.specs.Contract.{lead}
+use Rattle.glob.specs.Contract.{RangeAt}
 
 -- ---- the first `]`
-module _ (c : ℕ) (p : List ℕ) (i : ℕ) where
-  pub lead-here : i < length p → getD p i 0 ≡ c → i ≡ i + lead c (drop i p)
-  unfolding lead
-  lead-here h e = rw (next p i h, eq-eqb _ _ e) (omega arith)
-
-  pub lead-on : i < length p → (getD p i 0 ≡ c → ⊥) → i + 1 + lead c (drop (i + 1) p) ≡ i + lead c (drop i p)
-  unfolding lead
-  lead-on h e = rw (next p i h, ne-eqb _ _ e) (omega arith)
-
-  pub lead-end : length p ≤ i → i ≡ i + lead c (drop i p)
-  unfolding lead
-  lead-end h = rw (drop-of-length-le p h) (omega arith)
-
 -- the bytes up to a place, and those behind the one that stands there
 abbrev pub partsIn : List ℕ → List ℕ → Option Parts
 partsIn front [] = none

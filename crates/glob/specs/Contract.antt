@@ -14,11 +14,6 @@ use Rattle.glob.specs.declared.alternative.ByteContext.the-variants.{Fre
 use Rattle.glob.specs.declared.alternative.Parted.{Parted}
 use Rattle.glob.specs.declared.alternative.Parted.the-variants.{Malformed, Name, NameAtHost}
 
--- how many bytes stand in front of the first c, or of the end
-unfoldable pub lead : ℕ → List ℕ → ℕ
-lead c [] = 0
-lead c (b ∷ s) = cond (eqb b c) 0 (suc (lead c s))
-
 -- r is where the range that begins at `at` ends
 pub record RangeAt (s : List ℕ) (at r : ℕ) : Type 0 where
   pub low : at ≤ r

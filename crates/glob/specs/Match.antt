@@ -17,6 +17,7 @@ pub data Token : Type 0 where
 pub data Sign : Type 0 where
   star question backslash bracket ordinary : Sign
 
+-- what a byte of a brace-free pattern begins
 unfoldable pub signOf : ℕ → Sign
 signOf c = cond (is "*" c) star (cond (is "?" c) question (cond (is "\\" c) backslash (cond (is "[" c) bracket ordinary)))
 

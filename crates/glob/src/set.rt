@@ -1,4 +1,5 @@
 // The bytes between the brackets of a set.
+use text::slice::byte_from;
 ghost use mathlib.Core.Bool.{cond};
 ghost use mathlib.Core.Path.{_≡_};
 ghost use Prim.Native.Nat.{_+_, _≤_, _<_};
@@ -7,20 +8,14 @@ ghost use Rattle.text.specs.Class.{range, inRange};
 ghost use Rattle.text.specs.Lists.{all};
 ghost use Rattle.text.specs.Slice.{headIs};
 ghost use Rattle.glob.specs.Set.{ranges, rising, covered, goodSet, inSet};
-ghost use Rattle.glob.specs.Contract.{lead, RangeAt};
+ghost use Rattle.text.specs.Contract.{lead};
+ghost use Rattle.glob.specs.Contract.{RangeAt};
 
 // Where the first `]` at or after `at` stands, or the length.
 pub fn close(p: &[u8], at: usize) -> usize
     ensures { λ r. ⌜ (r ≡ at + lead 93 (drop at (now (p .entry)))) × (at ≤ r) × (at ≤ length (now (p .entry)) → r ≤ length (now (p .entry))) ⌝ }
 {
-    let mut i = at;
-    while i < p.len() {
-        if p[i] == b']' {
-            return i;
-        }
-        i += 1;
-    }
-    i
+    byte_from(p, at, b']')
 }
 
 // Where the range that begins at `at` ends: a plain byte is a range of one.

@@ -13,9 +13,11 @@ use Rattle.variables.specs.Scope.{Definition, define, isName, builtIn}
 abbrev pub nameLimit : ℕ
 nameLimit = 64
 
+-- the most bytes of a text
 abbrev pub textLimit : ℕ
 textLimit = 256
 
+-- the most different names
 abbrev pub namesLimit : ℕ
 namesLimit = 64
 
