@@ -6,10 +6,10 @@ use Rattle.probe.proofs.line_words.put_fields.Statement.{statement}
 use Rattle.probe.proofs.line_words.put_fields.Tie as tie
 
 abbrev Inv-loop : tie.InvT-loop
-Inv-loop joined ends count out₀ n m₀ i₀ out m i = length out ≡ length out₀
+Inv-loop joined ends count out₀ n m₀ i₀ t9 out m i = length out ≡ length out₀
 
 abbrev μ-loop : tie.MeasureT-loop
-μ-loop joined ends count out₀ n m₀ i₀ out m i = count - i
+μ-loop joined ends count out₀ n m₀ i₀ t9 out m i = count - i
 
 loop-holds : tie.Need-loop-holds Inv-loop μ-loop
 loop-holds c = search needs
