@@ -1,1 +1,7 @@
 pub mod PathLaws
+pub mod PairLaws
+pub mod HoldsLaws
+pub mod AddLaws
+pub mod FinishLaws
+pub mod VerdictLaws
+pub mod EntryLaws

@@ -1,0 +1,174 @@
+-- What the code keeps of an entry's fields, and what its answers say: cited by contracts and proofs only.
+use Prim.Native.Nat.{ℕ}
+use mathlib.Core.Path.{_≡_}
+use mathlib.Core.Bool.{Bool, true, false, not, cond, _&&_, _||_}
+use mathlib.Core.List.{List, [], _∷_, map}
+use mathlib.Core.Option.{Option, none, some}
+use lib.ListN.{drop}
+use Rattle.text.specs.Lists.{null}
+use Rattle.fault.specs.Fault.{Reading, fault, value, andThen}
+use Rattle.fault.specs.declared.Cause.{Cause}
+use Rattle.glob.specs.Match.{matchesSome}
+use Rattle.options.specs.Options.{Options}
+use Rattle.options.specs.Read.{Setting, optionsOf, argumentsOf}
+use Rattle.options.specs.Contract.{lineOf, optionsIn, failures}
+use Rattle.options.specs.declared.line.LineOptions.{LineOptions}
+use Rattle.condition.specs.declared.rightmost.Rightmost.{Rightmost}
+use Rattle.condition.specs.Rightmost.{Judged, judged}
+use Rattle.condition.specs.Contract.{noneKept, addedAll}
+use Rattle.entry.specs.declared.entry.Position.{Position as CodePosition}
+use Rattle.entry.specs.declared.entry.Position.the-variants.{First, Second, Pairs, Rest}
+use Rattle.entry.specs.declared.entry.Entry.{Entry as Kept}
+use Rattle.entry.specs.declared.entry.FieldOutcome.{FieldOutcome}
+use Rattle.entry.specs.declared.entry.FieldOutcome.the-variants.{Good, Fault}
+use Rattle.entry.specs.declared.entry.Added.{Added}
+use Rattle.entry.specs.declared.own.Own.{Own}
+use Rattle.entry.specs.declared.verdict.Verdict.{Verdict as CodeVerdict}
+use Rattle.entry.specs.declared.verdict.Verdict.the-variants.{Nargs, Argument, Path as PathLength, Password, Permit}
+use Rattle.entry.specs.declared.pair.CommandRead.{CommandRead}
+use Rattle.entry.specs.declared.pair.CommandRead.the-variants.{Fault as CommandFault, Matches, Misses}
+use Rattle.entry.specs.Verdict.{Verdict, permit, password, stoppedByNargs, stoppedByArgument, stoppedByPath}
+use Rattle.entry.specs.Field.{Pair, Entry, followed, Position, first, second, pairs, rest, FieldRead, fieldRead, aPair, fullPath}
+
+-- ---- the command
+-- a command pattern is taken where something is judged and it matches
+abbrev pub taken : Bool → List ℕ → List (List ℕ) → Bool
+taken judging command es = judging && matchesSome es command
+
+abbrev pub commandTest : Bool → CommandRead
+commandTest true = Matches
+commandTest false = Misses
+
+unfoldable pub commandRead : Bool → List ℕ → Reading Cause (List (List ℕ)) → CommandRead
+commandRead judging command (fault c) = CommandFault c
+commandRead judging command (value es) = commandTest (taken judging command es)
+
+-- the path, as written, of the leftmost pair that is taken
+unfoldable pub firstPath : (List (List ℕ) → Bool) → List Pair → Option (List ℕ)
+firstPath f [] = none
+firstPath f (p ∷ ps) = cond (f (p .expansions)) (some (p .path)) (firstPath f ps)
+
+-- ---- what is kept
+-- with one more pair
+unfoldable pub pairedWith : Kept → Bool → ℕ → ℕ → CodePosition → Kept
+pairedWith k matches field at next = record {
+  position = next;
+  waiting = false;
+  paired = true;
+  matched = k .matched || matches;
+  field = cond (k .matched) (k .field) field;
+  at = cond (k .matched) (k .at) at;
+  users = k .users;
+  times = k .times;
+  options = k .options;
+}
+
+-- behind a command pattern that waits for its path
+unfoldable pub waitingWith : Kept → Bool → Kept
+waitingWith k matches = record {
+  position = Second;
+  waiting = matches;
+  paired = k .paired;
+  matched = k .matched;
+  field = k .field;
+  at = k .at;
+  users = k .users;
+  times = k .times;
+  options = k .options;
+}
+
+-- behind a field of the rest, with what it changes
+unfoldable pub restWith : Kept → Rightmost → Rightmost → LineOptions → Kept
+restWith k us ts o = record {
+  position = Rest;
+  waiting = k .waiting;
+  paired = k .paired;
+  matched = k .matched;
+  field = k .field;
+  at = k .at;
+  users = us;
+  times = ts;
+  options = o;
+}
+
+-- alternatives of which none applies unless something is judged
+abbrev pub masked : Bool → List Judged → List Judged
+masked judging xs = map (λ x. judged (x .negated) (judging && x .applies)) xs
+
+-- the path that is kept, by the texts of the fields
+abbrev pub pathIn : (ℕ → List ℕ) → Kept → Option (List ℕ)
+pathIn text k = cond (k .matched) (some (drop (k .at) (text (k .field)))) none
+
+-- where the next field stands
+abbrev pub Stands : Bool → List ℕ → Kept → Position → Type 0
+Stands judging command k first = k .position ≡ First
+Stands judging command k (second es) = (k .position ≡ Second) × (k .waiting ≡ taken judging command es)
+Stands judging command k pairs = k .position ≡ Pairs
+Stands judging command k rest = k .position ≡ Rest
+
+-- there is no condition and no option yet
+abbrev pub NoOther : Entry → Type 0
+NoOther e = (e .users ≡ []) × (e .times ≡ []) × (e .settings ≡ [])
+
+-- what fields there can be before that
+abbrev pub Early : Position → Entry → Type 0
+Early first e = NoOther e
+Early (second es) e = NoOther e
+Early pairs e = NoOther e
+Early rest e = Unit {0}
+
+-- what is kept is what the rules ask of the fields so far
+pub record Keeps (judging : Bool) (command : List ℕ) (text : ℕ → List ℕ) (k : Kept) (e : Entry) : Type 0 where
+  pub paired : k .paired ≡ not (null (e .pairs))
+  pub path : pathIn text k ≡ firstPath (taken judging command) (e .pairs)
+  pub users : k .users ≡ addedAll noneKept (masked (k .matched) (e .users))
+  pub times : k .times ≡ addedAll noneKept (masked (k .matched) (e .times))
+  pub options : k .options ≡ lineOf (e .settings)
+
+-- and the next field stands where the rules say
+pub record Holds (judging : Bool) (command : List ℕ) (text : ℕ → List ℕ) (k : Kept) (p : Position) (e : Entry) : Type 0 where
+  pub stands : Stands judging command k p
+  pub early : Early p e
+  pub keeps : Keeps judging command text k e
+
+-- what a field makes of it: its fault, or what is kept behind it
+abbrev pub AddsIn : Bool → List ℕ → (ℕ → List ℕ) → Entry → Reading Cause FieldRead → Added → Type 0
+AddsIn judging command text e (fault c) r = r .outcome ≡ Fault c
+AddsIn judging command text e (value x) r = (r .outcome ≡ Good) × Holds judging command text (r .entry) (x .next) (followed e (x .part))
+
+pub record Adds (judging : Bool) (command : List ℕ) (text : ℕ → List ℕ) (e : Entry) (o : Reading Cause FieldRead) (r : Added) : Type 0 where
+  pub adds : AddsIn judging command text e o r
+
+-- a path, of a pair whose command pattern has these expansions
+abbrev pub pathBehind : List (List ℕ) → List ℕ → Position → Reading Cause FieldRead
+pathBehind es t next = andThen (fullPath t) (λ p. value (fieldRead (aPair es p) next))
+
+-- what a whole entry comes to
+abbrev pub outcomeOf : Reading Cause Entry → FieldOutcome
+outcomeOf (fault c) = Fault c
+outcomeOf (value e) = Good
+
+-- there is a path
+abbrev pub given : Option (List ℕ) → Bool
+given none = false
+given (some p) = true
+
+-- ---- the deciding entry
+-- the setting that a text is, if it is one
+abbrev pub settingsIn : Option (Reading Cause Setting) → List Setting
+settingsIn none = []
+settingsIn (some (fault c)) = []
+settingsIn (some (value s)) = s ∷ []
+
+-- what is kept of its settings: the options, and which arguments fail its patterns
+pub record Sums (args : List (List ℕ)) (o : Own) (ss : List Setting) : Type 0 where
+  pub options : optionsIn (o .options) ≡ optionsOf ss
+  pub failures : o .failures .at ≡ failures (argumentsOf ss) args
+
+-- what the code's verdict stands for
+abbrev pub verdictIn : List ℕ → Options → CodeVerdict → Verdict
+verdictIn p o Nargs = stoppedByNargs
+verdictIn p o Argument = stoppedByArgument
+verdictIn p o PathLength = stoppedByPath
+verdictIn p o Password = password p o
+verdictIn p o Permit = permit p o
