@@ -1,4 +1,5 @@
 pub mod PathLaws
+pub mod OtherLaws
 pub mod PairLaws
 pub mod HoldsLaws
 pub mod AddLaws

@@ -1,7 +1,7 @@
 -- The deciding entry's settings one after the other, and its verdict.
-use mathlib.Core.Path.{_≡_, refl, sym, _∙_}
+use mathlib.Core.Path.{_≡_, refl, sym, ap, _∙_}
 use mathlib.Core.Bool.{Bool, true, false}
-use mathlib.Core.List.{List, [], _∷_, _++_, append-nil}
+use mathlib.Core.List.{List, [], _∷_, _++_, append-nil, append-assoc}
 use mathlib.Core.Option.{Option}
 use Prim.Native.Nat.{ℕ, _+_, _-_, _≤_}
 use native.Mathlib.Omega.{arith}
@@ -21,7 +21,7 @@ use Rattle.question.specs.Question.{Question}
 use Rattle.question.specs.declared.LastAuthentication.{LastAuthentication}
 use Rattle.question.specs.Password.{passwordNeeded}
 use Rattle.options.specs.Options.{Options, over, authOr, timeoutOr, nargsAllow}
-use Rattle.options.specs.Arguments.{ArgumentPattern}
+use Rattle.options.specs.Arguments.{ArgumentPattern, inForce}
 use Rattle.options.specs.Read.{Setting, argumentsOf}
 use Rattle.options.specs.Contract.{optionsIn, valueIn, settingIn, failures, failuresAfter}
 use Rattle.options.specs.declared.setting.OptionSetting.{OptionSetting}
@@ -40,21 +40,22 @@ value-short t = go (findByte 61 0 t) refl
     go Nothing e = rw (← (value-none t e)) (omega arith)
     go (At i) e = rw (← (value-found t e)) (omega (arith, length-take (length t - (i + 1)) (drop (i + 1) t), length-drop (i + 1) t))
 
-module _ {xs : List (List ℕ)} {o : Own} {ss : List Setting} where
-  pub sums-same : Sums xs o ss → Sums xs o (ss ++ [])
+module _ {ps : List ArgumentPattern} {xs : List (List ℕ)} {o : Own} {ss : List Setting} where
+  pub sums-same : Sums ps xs o ss → Sums ps xs o (ss ++ [])
   sums-same h = rw (append-nil ss) h
 
-  pub sums-more : {r : Own} (t : List ℕ) (s : OptionSetting) {v : List ℕ} → length t ≤ 1024 → v ≡ valueIn t → Sums xs o ss → optionsIn (r .options) ≡ over (optionsIn (o .options)) (settingIn v s .options) → r .failures .at ≡ failuresAfter v s xs (o .failures .at)
-      → Sums xs r (ss ++ (settingIn (valueIn t) s ∷ []))
+  pub sums-more : {r : Own} (t : List ℕ) (s : OptionSetting) {v : List ℕ} → length t ≤ 1024 → v ≡ valueIn t → Sums ps xs o ss → optionsIn (r .options) ≡ over (optionsIn (o .options)) (settingIn v s .options) → r .failures .at ≡ failuresAfter v s xs (o .failures .at)
+      → Sums ps xs r (ss ++ (settingIn (valueIn t) s ∷ []))
+  unfolding inForce
   sums-more {r} t s {v} l q h e f =
       let short : length v ≤ 1024 = rw q (omega (arith, value-short t)) in
       rw (← q)
       (record {
         options = e ∙ rw (h .options) (sym (options-more ss (settingIn v s)));
-        failures = f ∙ rw (h .failures, arguments-more ss (settingIn v s)) (failures-more (argumentsOf ss) v s xs short);
+        failures = f ∙ rw (h .failures, arguments-more ss (settingIn v s)) (failures-more (ps ++ argumentsOf ss) v s xs short ∙ ap (λ l. failures l xs) (append-assoc ps (argumentsOf ss) (settingIn v s .arguments)));
       })
 
-pub sums-as : {xs : List (List ℕ)} (ss : List Setting) {r : Own} {a b : Option (Reading Cause Setting)} → a ≡ b → Sums xs r (ss ++ settingsIn a) → Sums xs r (ss ++ settingsIn b)
+pub sums-as : {ps : List ArgumentPattern} {xs : List (List ℕ)} (ss : List Setting) {r : Own} {a b : Option (Reading Cause Setting)} → a ≡ b → Sums ps xs r (ss ++ settingsIn a) → Sums ps xs r (ss ++ settingsIn b)
 sums-as ss e h = rw (← e) h
 
 -- ---- the verdict, test by test

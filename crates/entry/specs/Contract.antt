@@ -10,6 +10,7 @@ use Rattle.fault.specs.Fault.{Reading, fault, value, andThen}
 use Rattle.fault.specs.declared.Cause.{Cause}
 use Rattle.glob.specs.Match.{matchesSome}
 use Rattle.options.specs.Options.{Options}
+use Rattle.options.specs.Arguments.{ArgumentPattern, inForce}
 use Rattle.options.specs.Read.{Setting, optionsOf, argumentsOf}
 use Rattle.options.specs.Contract.{lineOf, optionsIn, failures}
 use Rattle.options.specs.declared.line.LineOptions.{LineOptions}
@@ -28,7 +29,7 @@ use Rattle.entry.specs.declared.verdict.Verdict.the-variants.{Nargs, Arg
 use Rattle.entry.specs.declared.pair.CommandRead.{CommandRead}
 use Rattle.entry.specs.declared.pair.CommandRead.the-variants.{Fault as CommandFault, Matches, Misses}
 use Rattle.entry.specs.Verdict.{Verdict, permit, password, stoppedByNargs, stoppedByArgument, stoppedByPath}
-use Rattle.entry.specs.Field.{Pair, Entry, followed, Position, first, second, pairs, rest, FieldRead, fieldRead, aPair, fullPath}
+use Rattle.entry.specs.Field.{Pair, Entry, followed, Position, first, second, pairs, rest, FieldRead, fieldRead, aPair, fullPath, hasPair}
 
 -- ---- the command
 -- a command pattern is taken where something is judged and it matches
@@ -143,6 +144,14 @@ pub record Adds (judging : Bool) (command : List ℕ) (text : ℕ → List ℕ) 
 abbrev pub pathBehind : List (List ℕ) → List ℕ → Position → Reading Cause FieldRead
 pathBehind es t next = andThen (fullPath t) (λ p. value (fieldRead (aPair es p) next))
 
+-- a field of this text is an option or a condition
+unfoldable pub otherAt : Position → List ℕ → Bool
+unfolding hasPair
+otherAt first t = false
+otherAt (second es) t = false
+otherAt pairs t = not (hasPair t)
+otherAt rest t = true
+
 -- what a whole entry comes to
 abbrev pub outcomeOf : Reading Cause Entry → FieldOutcome
 outcomeOf (fault c) = Fault c
@@ -160,10 +169,10 @@ settingsIn none = []
 settingsIn (some (fault c)) = []
 settingsIn (some (value s)) = s ∷ []
 
--- what is kept of its settings: the options, and which arguments fail its patterns
-pub record Sums (args : List (List ℕ)) (o : Own) (ss : List Setting) : Type 0 where
+-- what is kept of its settings: the options, and which arguments fail the patterns in force or its own
+pub record Sums (global : List ArgumentPattern) (args : List (List ℕ)) (o : Own) (ss : List Setting) : Type 0 where
   pub options : optionsIn (o .options) ≡ optionsOf ss
-  pub failures : o .failures .at ≡ failures (argumentsOf ss) args
+  pub failures : o .failures .at ≡ failures (inForce global (argumentsOf ss)) args
 
 -- what the code's verdict stands for
 abbrev pub verdictIn : List ℕ → Options → CodeVerdict → Verdict

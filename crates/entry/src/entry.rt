@@ -29,7 +29,7 @@ ghost use Rattle.condition.specs.Condition.{Sort, judgeOf};
 ghost use Rattle.entry.specs.Field.{Entry as Held, Position as Stand, first, noField, pairAt, commandOf, pathField, optionOr, otherOf, fieldOf};
 ghost use Rattle.entry.specs.Entry.{completed, conditionsAccept};
 ghost use Rattle.entry.specs.Path.{pathFor};
-ghost use Rattle.entry.specs.Contract.{taken, given, pairedWith, waitingWith, restWith, Stands, NoOther, Keeps, Holds, Adds, pathBehind, outcomeOf};
+ghost use Rattle.entry.specs.Contract.{taken, given, pairedWith, waitingWith, restWith, Stands, NoOther, Keeps, Holds, Adds, pathBehind, otherAt, outcomeOf};
 
 // Where the next field stands.
 pub enum Position {
@@ -376,11 +376,20 @@ impl Entry {
         times.times_accept()
     }
 
-    // Whether a pair matches the command.
-    pub fn matched(self) -> bool
-        ensures { λ r. ⌜ r ≡ self .matched ⌝ }
+    // Whether the next field, by its text, is an option or a condition.
+    pub fn takes_other(self, text: &[u8]) -> bool
+        ensures { λ r. ⌜ ((j : Bool) (c : List ℕ) (t : ℕ → List ℕ) (p : Stand) (e : Held) → Holds j c t self p e → r ≡ otherAt p (now (text .entry))) ⌝ }
     {
-        self.matched
+        let position = self.position;
+        match position {
+            Position::First => false,
+            Position::Second => false,
+            Position::Pairs => match find_pair(text, b':', b':') {
+                Found::At(_) => false,
+                Found::Nothing => true,
+            },
+            Position::Rest => true,
+        }
     }
 
     // The number of the field that its path stands in.

@@ -167,7 +167,7 @@ ends-short after b (c ∷ s) e =
     let h = span-most (endsLine after b) b (endedLines (is "\\" b) (c ∷ s)) in
     omega arith
 
-short-table : (t : List ℕ) → cutShort t ≡ ltb (lastEnd 0 (linesOf t)) (length t)
+pub short-table : (t : List ℕ) → cutShort t ≡ ltb (lastEnd 0 (linesOf t)) (length t)
 unfolding cutShort lastEnds endedLines placed
 short-table [] = refl
 short-table (b ∷ s) = rw (last-placed 0 1 (endedLines false (b ∷ s))) (by (lastEnds false (b ∷ s)) refl)

@@ -1,4 +1,11 @@
 pub mod ReadLaws
+pub mod FieldsLaws
+pub mod WordLaws
+pub mod ConditionalLaws
+pub mod ControlLineLaws
+pub mod DefineLaws
+pub mod GlobalLaws
+pub mod StateLaws
 pub mod ShortSettings
 pub mod ShortEntries
 pub mod ShortIds

@@ -15,7 +15,7 @@ use Rattle.line.specs.declared.kind.LineKind.{LineKind}
 use Rattle.line.specs.Line.{Line}
 use Rattle.line.specs.Kind.{kindOfLine}
 use Rattle.question.specs.Question.{Question}
-use Rattle.variables.specs.Scope.{Definition, definition}
+use Rattle.variables.specs.Scope.{Scope, Definition, definition}
 use Rattle.variables.specs.Define.{defineName, defineText, defineIn}
 use Rattle.variables.specs.Substitute.{fieldText}
 use Rattle.options.specs.Read.{Setting, twice}
@@ -35,34 +35,40 @@ pub data Change (q : Question) (line : ℕ) (s t : State) : Type 0 where
   sets : (fs : List (List ℕ)) (ss : List Setting) → readAll (globalField (scopeOf q s)) fs ≡ value ss → withSettings ss s ≡ t → Change q line s t
   enters : (fs : List (List ℕ)) (e : Entry) → entryOf (judgeFor q) (scopeOf q s) fs ≡ value e → withEntry q line e s ≡ t → Change q line s t
 
-module _ (q : Question) (line : ℕ) (s t : State) where
-  -- ---- `:define`
-  by-defined : (d : Definition) (fs : List (List ℕ)) → defined (scopeOf q s) s d fs ≡ value t → Change q line s t
-  by-defined d [] e = defines d (same-value (and-then (defineIn d (s .definitions)) _ t e .2))
-  by-defined d (f ∷ fs) e = never (and-then (fieldText (scopeOf q s) f) _ t e .2)
+-- ---- `:define` and `:global`
+module _ (sc : Scope) (s t : State) where
+  defined-change : (d : Definition) (fs : List (List ℕ)) → defined sc s d fs ≡ value t → withDefinition d s ≡ t
+  defined-change d [] e = same-value (and-then (defineIn d (s .definitions)) _ t e .2)
+  defined-change d (f ∷ fs) e = never (and-then (fieldText sc f) _ t e .2)
 
-  by-text : (n : List ℕ) (fs : List (List ℕ)) → textAfter (scopeOf q s) s n fs ≡ value t → Change q line s t
-  by-text n [] e = never e
-  by-text n (f ∷ fs) e =
-      let u = and-then (fieldText (scopeOf q s) f) _ t e in
+  text-change : (n : List ℕ) (fs : List (List ℕ)) → textAfter sc s n fs ≡ value t → (d : Definition) × (withDefinition d s ≡ t)
+  text-change n [] e = never e
+  text-change n (f ∷ fs) e =
+      let u = and-then (fieldText sc f) _ t e in
       let v = and-then (defineText (u .0)) _ t (u .2) in
-      by-defined (definition n (v .0)) fs (v .2)
+      (definition n (v .0), defined-change (definition n (v .0)) fs (v .2))
 
-  by-define : (fs : List (List ℕ)) → defineLine (scopeOf q s) s fs ≡ value t → Change q line s t
+  pub define-change : (fs : List (List ℕ)) → defineLine sc s fs ≡ value t → (d : Definition) × (withDefinition d s ≡ t)
   unfolding defineLine
-  by-define [] e = never e
-  by-define (f ∷ fs) e =
-      let u = and-then (fieldText (scopeOf q s) f) _ t e in
+  define-change [] e = never e
+  define-change (f ∷ fs) e =
+      let u = and-then (fieldText sc f) _ t e in
       let v = and-then (defineName (u .0)) _ t (u .2) in
-      by-text (v .0) fs (v .2)
+      text-change (v .0) fs (v .2)
 
-  -- ---- `:global`
-  by-global : (fs : List (List ℕ)) → globalLine (scopeOf q s) s fs ≡ value t → Change q line s t
+  pub global-change : (fs : List (List ℕ)) → globalLine sc s fs ≡ value t → (ss : List Setting) × (readAll (globalField sc) fs ≡ value ss) × (withSettings ss s ≡ t)
   unfolding globalLine
-  by-global fs e =
-      let u = and-then (readAll (globalField (scopeOf q s)) fs) _ t e in
+  global-change fs e =
+      let u = and-then (readAll (globalField sc) fs) _ t e in
       let v = required (not (null (u .0))) MissingPart _ t (u .2) in
-      sets fs (u .0) (u .1) (same-value (required (not (twice (u .0))) OptionTwice _ t (v .1) .1))
+      (u .0, u .1, same-value (required (not (twice (u .0))) OptionTwice _ t (v .1) .1))
+
+module _ (q : Question) (line : ℕ) (s t : State) where
+  by-define : (fs : List (List ℕ)) → defineLine (scopeOf q s) s fs ≡ value t → Change q line s t
+  by-define fs e = let x = define-change (scopeOf q s) s t fs e in defines (x .0) (x .1)
+
+  by-global : (fs : List (List ℕ)) → globalLine (scopeOf q s) s fs ≡ value t → Change q line s t
+  by-global fs e = let x = global-change (scopeOf q s) s t fs e in sets fs (x .0) (x .1) (x .2)
 
   -- ---- `:if`, with what the rest of the line does
   abbrev Deeper : Option (List (List ℕ) → Reading Cause State) → Type 0

@@ -1,3 +1,4 @@
 pub mod State
 pub mod Colon
 pub mod Read
+pub mod Contract

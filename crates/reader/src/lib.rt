@@ -1,8 +1,7 @@
 // One control line, from the old state to the new.
-
-// How deep `:if` may stand inside `:if`.
-pub struct Reader;
-
-impl Reader {
-    pub const IF_DEPTH: usize = 4;
-}
+pub mod control_line; // what a control line does
+mod conditional; // whether the rest of an `:if` is taken
+mod define; // the name and the text of a `:define`
+mod global; // the options of a `:global`
+pub mod state; // the state, by value
+mod word; // the word that a line with a colon begins with

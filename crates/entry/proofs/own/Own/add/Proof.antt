@@ -25,13 +25,13 @@ add-requires-2 : tie.Need-add-requires-2
 add-requires-2 c κs = search needs
 
 returns : tie.Need-returns
-returns c = λ ss l h. sums-as ss (rw (c .enum-told .given .1) at (c .before .before .read-option .ensures)) (sums-same h)
+returns c = λ ps ss l h. sums-as ss (rw (c .enum-told .given .1) at (c .before .before .read-option .ensures)) (sums-same h)
 
 returns-2 : tie.Need-returns-2
-returns-2 c = λ ss l h. sums-as ss (rw (c .enum-told2 .given .1) at (c .before .before .read-option .ensures)) (sums-same h)
+returns-2 c = λ ps ss l h. sums-as ss (rw (c .enum-told2 .given .1) at (c .before .before .read-option .ensures)) (sums-same h)
 
 returns-3 : tie.Need-returns-3
-returns-3 c = λ ss l h. sums-as ss (rw (c .before .before .before .before .before .before .setting .given .1) at (c .before .before .before .before .before .before .before .before .read-option .ensures)) (sums-more (c .before .before .before .before .before .before .before .before .before .before .before .args .text .now) (c .before .before .before .before .before .before .setting .given .0 .0) l (c .before .before .value-of .ensures) h (c .before .add .ensures) (c .add2 .ensures))
+returns-3 c = λ ps ss l h. sums-as ss (rw (c .before .before .before .before .before .before .setting .given .1) at (c .before .before .before .before .before .before .before .before .read-option .ensures)) (sums-more (c .before .before .before .before .before .before .before .before .before .before .before .args .text .now) (c .before .before .before .before .before .before .setting .given .0 .0) l (c .before .before .value-of .ensures) h (c .before .add .ensures) (c .add2 .ensures))
 
 pub add-spec : {M : Type 1} → statement M
 add-spec =

@@ -1,0 +1,4 @@
+pub mod FieldTextLaws
+pub mod ReadLaws
+pub mod OwnLaws
+pub mod DecideLaws

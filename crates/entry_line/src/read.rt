@@ -1,0 +1,188 @@
+// The fields of an entry from left to right, each replaced by its text.
+use entry::entry::Added;
+use entry::entry::Entry;
+use entry::entry::FieldOutcome;
+use fault::Cause;
+use line::fields::field;
+use line::scan::ScannedLine;
+use question::WeekMinute;
+use text::number::at_most;
+use variables::Variables;
+use variables::field::FieldText;
+use variables::field::field_text;
+use variables::field::is_verbatim;
+ghost use Prim.Native.Nat.{ℕ};
+ghost use mathlib.Core.Path.{_≡_};
+ghost use mathlib.Core.List.{List};
+ghost use lib.ListN.{drop};
+ghost use Rattle.fault.specs.Fault.{andThen};
+ghost use Rattle.line.specs.Contract.{fieldsIn};
+ghost use Rattle.question.specs.Contract.{stringsIn};
+ghost use Rattle.variables.specs.Substitute.{fieldText};
+ghost use Rattle.variables.specs.Contract.{scopeIn};
+ghost use Rattle.condition.specs.Condition.{judgeOf};
+ghost use Rattle.entry.specs.Field.{Entry as Held, Position as Stand, fieldOf};
+ghost use Rattle.entry.specs.Entry.{entryOf};
+ghost use Rattle.entry.specs.Contract.{Holds, Adds};
+ghost use Rattle.entry_line.specs.Contract.{textOr, textsIn, Reads, Acting, Acts};
+
+// What a line that is an entry comes to.
+pub enum EntryAction {
+    Fault(Cause),
+    // It does not accept, or nothing is judged.
+    Passed,
+    // It accepts: its path stands in the text of this field, from this byte on.
+    Accepts(usize, usize),
+}
+
+// One field more, as it is written: where it is its own text, nothing is copied.
+fn add_field<'a>(
+    entry: Entry,
+    index: usize,
+    field: &[u8],
+    judging: bool,
+    command: &[u8],
+    user: &[u8],
+    groups: &[u8],
+    host: &[u8],
+    minute: WeekMinute,
+    bytes: &'a [u8; Variables::BYTES],
+    sizes: &'a [usize; Variables::SIZES],
+    names: usize,
+    scratch: &mut [u8; FieldText::BYTES],
+) -> Added
+    ensures { λ r. ⌜ ((t : ℕ → List ℕ) (p : Stand) (e : Held) → t index ≡ textOr (now (field .entry)) (fieldText (scopeIn (now (user .entry)) (now (host .entry)) (now (bytes .entry)) (now (sizes .entry)) names) (now (field .entry))) → Holds judging (now (command .entry)) t entry p e → Adds judging (now (command .entry)) t e (andThen (fieldText (scopeIn (now (user .entry)) (now (host .entry)) (now (bytes .entry)) (now (sizes .entry)) names) (now (field .entry))) (fieldOf (judgeOf (now (user .entry)) (stringsIn (now (groups .entry))) (now (host .entry)) (minute .0)) p)) r) ⌝ }
+{
+    if is_verbatim(field) {
+        return entry.add(index, field, judging, command, user, groups, host, minute);
+    }
+    match field_text(bytes, sizes, names, user, host, field, scratch) {
+        FieldText::Fault(cause) => Added {
+            entry,
+            outcome: FieldOutcome::Fault(cause),
+        },
+        FieldText::Text(n) => {
+            let all = &scratch[..];
+            entry.add(
+                index,
+                &all[..n],
+                judging,
+                command,
+                user,
+                groups,
+                host,
+                minute,
+            )
+        }
+    }
+}
+
+// All fields from one on, and what concerns the whole entry.
+fn read_fields<'a, 'b>(
+    text: &'a [u8],
+    ends: &'a [usize; 64],
+    count: usize,
+    from: usize,
+    judging: bool,
+    command: &[u8],
+    user: &[u8],
+    groups: &[u8],
+    host: &[u8],
+    minute: WeekMinute,
+    bytes: &'b [u8; Variables::BYTES],
+    sizes: &'b [usize; Variables::SIZES],
+    names: usize,
+    scratch: &mut [u8; FieldText::BYTES],
+) -> Added
+    ensures { λ r. ⌜ Reads judging (now (command .entry)) (textsIn (scopeIn (now (user .entry)) (now (host .entry)) (now (bytes .entry)) (now (sizes .entry)) names) (fieldsIn (now (text .entry)) (now (ends .entry)) count)) (entryOf (judgeOf (now (user .entry)) (stringsIn (now (groups .entry))) (now (host .entry)) (minute .0)) (scopeIn (now (user .entry)) (now (host .entry)) (now (bytes .entry)) (now (sizes .entry)) names) (drop from (fieldsIn (now (text .entry)) (now (ends .entry)) count))) r ⌝ }
+{
+    let most = at_most(count, ScannedLine::FIELDS);
+    let mut entry = Entry::new();
+    let mut i = from;
+    while i < most {
+        let added = add_field(
+            entry,
+            i,
+            field(text, ends, count, i),
+            judging,
+            command,
+            user,
+            groups,
+            host,
+            minute,
+            bytes,
+            sizes,
+            names,
+            scratch,
+        );
+        let outcome = added.outcome;
+        if let FieldOutcome::Fault(cause) = outcome {
+            return Added {
+                entry,
+                outcome: FieldOutcome::Fault(cause),
+            };
+        }
+        entry = added.entry;
+        i += 1;
+    }
+    Added {
+        entry,
+        outcome: entry.finish(),
+    }
+}
+
+// What an entry that has no fault comes to.
+fn action_of(entry: Entry, judging: bool, user: &[u8]) -> EntryAction
+    ensures { λ r. ⌜ ((command : List ℕ) (t : ℕ → List ℕ) (p : Stand) (e : Held) → Holds judging command t entry p e → Acting judging command (now (user .entry)) t e r) ⌝ }
+{
+    if !judging {
+        return EntryAction::Passed;
+    }
+    if !entry.accepts(user) {
+        return EntryAction::Passed;
+    }
+    EntryAction::Accepts(entry.field(), entry.at())
+}
+
+// The entry that the fields make from one of them on. Its faults are found whatever is asked; the command, users and times
+// are judged only where something is judged.
+pub fn read_entry<'a, 'b>(
+    text: &'a [u8],
+    ends: &'a [usize; 64],
+    count: usize,
+    from: usize,
+    judging: bool,
+    command: &[u8],
+    user: &[u8],
+    groups: &[u8],
+    host: &[u8],
+    minute: WeekMinute,
+    bytes: &'b [u8; Variables::BYTES],
+    sizes: &'b [usize; Variables::SIZES],
+    names: usize,
+    scratch: &mut [u8; FieldText::BYTES],
+) -> EntryAction
+    ensures { λ r. ⌜ Acts judging (now (command .entry)) (now (user .entry)) (textsIn (scopeIn (now (user .entry)) (now (host .entry)) (now (bytes .entry)) (now (sizes .entry)) names) (fieldsIn (now (text .entry)) (now (ends .entry)) count)) (entryOf (judgeOf (now (user .entry)) (stringsIn (now (groups .entry))) (now (host .entry)) (minute .0)) (scopeIn (now (user .entry)) (now (host .entry)) (now (bytes .entry)) (now (sizes .entry)) names) (drop from (fieldsIn (now (text .entry)) (now (ends .entry)) count))) r ⌝ }
+{
+    let read = read_fields(
+        text,
+        ends,
+        count,
+        from,
+        judging,
+        command,
+        user,
+        groups,
+        host,
+        minute,
+        bytes,
+        sizes,
+        names,
+        scratch,
+    );
+    let outcome = read.outcome;
+    match outcome {
+        FieldOutcome::Fault(cause) => EntryAction::Fault(cause),
+        FieldOutcome::Good => action_of(read.entry, judging, user),
+    }
+}

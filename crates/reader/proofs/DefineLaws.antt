@@ -1,0 +1,168 @@
+-- The definition that fields make: its name, its text, and that nothing stands behind it.
+use mathlib.Core.Path.{_≡_, refl, sym}
+use mathlib.Core.Bool.{not, _&&_}
+use mathlib.Core.List.{List, [], _∷_}
+use Prim.Native.Nat.{ℕ, _≤_}
+use lib.Dec.{leb}
+use lib.ListN.{length, take}
+use Rattle.fault.specs.Fault.{Reading, fault, value, andThen}
+use Rattle.fault.specs.declared.Cause.{Cause}
+use Rattle.fault.specs.declared.Cause.the-variants.{NameLength, TextLength, DefineName, SurplusField, MissingPart}
+use Rattle.fault.proofs.Readings.{same-value, and-then, required, never}
+use Rattle.variables.specs.Scope.{Scope, Definition, definition, isName, builtIn}
+use Rattle.variables.specs.Define.{defineName, defineText, defineIn}
+use Rattle.variables.specs.Substitute.{fieldText}
+use Rattle.variables.specs.Contract.{definedIn}
+use Rattle.reader.specs.State.{State, withDefinition}
+use Rattle.reader.specs.Colon.{defined, textAfter, defineLine}
+use Rattle.reader.specs.Contract.{lastRead, textRead, definitionRead, definitionIn, Within}
+use Rattle.reader.specs.declared.define.DefinitionRead.{DefinitionRead}
+use Rattle.reader.specs.declared.define.DefinitionRead.the-variants.{Fault as DefinitionFault, Good as DefinitionGood}
+
+-- ---- the parts of a definition, by what was read of each
+module _ (sc : Scope) where
+  -- a field behind the text is a fault: its own, or that it stands there
+  module _ (d : Definition) (f : List ℕ) (fs : List (List ℕ)) where
+    pub surplus-own : {c : Cause} → fault c ≡ fieldText sc f → lastRead sc d (f ∷ fs) ≡ fault c
+    surplus-own e = rw (← e)
+
+    pub surplus-text : {t : List ℕ} → value t ≡ fieldText sc f → lastRead sc d (f ∷ fs) ≡ fault SurplusField
+    surplus-text e = rw (← e)
+
+  module _ (n : List ℕ) {fs : List (List ℕ)} where
+    pub text-missing : fs ≡ [] → fault MissingPart ≡ textRead sc n fs
+    text-missing g = rw g
+
+    module _ {f : List ℕ} {rest : List (List ℕ)} (g : fs ≡ f ∷ rest) where
+      pub text-fault : {c : Cause} → fault c ≡ fieldText sc f → fault c ≡ textRead sc n fs
+      text-fault e = rw (g, ← e)
+
+      module _ {t : List ℕ} (e : value t ≡ fieldText sc f) where
+        pub text-refused : {c : Cause} → fault c ≡ defineText t → fault c ≡ textRead sc n fs
+        text-refused h = rw (g, ← e, ← h)
+
+        module _ (h : value t ≡ defineText t) where
+          -- one more field stands behind the text
+          pub text-before : {c : Cause} {f′ : List ℕ} {fs′ : List (List ℕ)} → rest ≡ f′ ∷ fs′ → ((d : Definition) (gs : List (List ℕ)) → lastRead sc d (f′ ∷ gs) ≡ fault c) → fault c ≡ textRead sc n fs
+          text-before {fs′ = fs′} k s = rw (g, ← e, ← h, k) (sym (s (definition n t) fs′))
+
+          -- the text is the last field
+          pub text-last : rest ≡ [] → value (definition n t) ≡ textRead sc n fs
+          text-last k = rw (g, ← e, ← h, k)
+
+  module _ {fs : List (List ℕ)} where
+    pub name-missing : fs ≡ [] → fault MissingPart ≡ definitionRead sc fs
+    unfolding definitionRead
+    name-missing g = rw g
+
+    module _ {f : List ℕ} {rest : List (List ℕ)} (g : fs ≡ f ∷ rest) where
+      pub name-fault : {c : Cause} → fault c ≡ fieldText sc f → fault c ≡ definitionRead sc fs
+      unfolding definitionRead
+      name-fault e = rw (g, ← e)
+
+      module _ {n : List ℕ} (e : value n ≡ fieldText sc f) where
+        pub name-refused : {c : Cause} → fault c ≡ defineName n → fault c ≡ definitionRead sc fs
+        unfolding definitionRead
+        name-refused h = rw (g, ← e, ← h)
+
+        -- the name is good: the text decides
+        pub name-before : value n ≡ defineName n → {o : Reading Cause Definition} → o ≡ textRead sc n rest → o ≡ definitionRead sc fs
+        unfolding definitionRead
+        name-before h k = rw (g, ← e, ← h) k
+
+-- what the answer tells
+module _ (name text : List ℕ) {r : DefinitionRead} {o : Reading Cause Definition} (w : definitionIn name text r ≡ o) where
+  pub definition-fault : {c : Cause} → r ≡ DefinitionFault c → fault c ≡ o
+  definition-fault e = rw e at w
+
+  pub definition-good : {k n : ℕ} → r ≡ DefinitionGood k n → value (definition (take k name) (take n text)) ≡ o
+  definition-good e = rw e at w
+
+-- its name and its text lie in their buffers
+pub definition-within : (name text : List ℕ) {r : DefinitionRead} {k n : ℕ} → Within name text r → r ≡ DefinitionGood k n → (k ≤ length name) × (n ≤ length text)
+definition-within name text w e = rw e at w
+
+-- ---- a definition that was read is good but for the number of names
+-- a check hands on what it checked
+pub name-kept : (t n : List ℕ) → defineName t ≡ value n → t ≡ n
+unfolding defineName
+name-kept t n e =
+    let u = required (leb (length t) 64) NameLength _ n e in
+    same-value (required (isName t && not (builtIn t)) DefineName _ n (u .1) .1)
+
+pub text-kept : (t u : List ℕ) → defineText t ≡ value u → t ≡ u
+unfolding defineText
+text-kept t u e = same-value (required (leb (length t) 256) TextLength _ u e .1)
+
+-- so that it passes again
+name-again : (t n : List ℕ) → defineName t ≡ value n → defineName n ≡ value n
+name-again t n e = rw (name-kept t n e) at e
+
+text-again : (t u : List ℕ) → defineText t ≡ value u → defineText u ≡ value u
+text-again t u e = rw (text-kept t u e) at e
+
+-- its name and its text pass their checks
+abbrev Passes : Definition → Type 0
+Passes d = (defineName (d .name) ≡ value (d .name)) × (defineText (d .text) ≡ value (d .text))
+
+last-read : (sc : Scope) (d e : Definition) (fs : List (List ℕ)) → lastRead sc d fs ≡ value e → d ≡ e
+last-read sc d e [] h = same-value h
+last-read sc d e (f ∷ fs) h = never (and-then (fieldText sc f) _ e h .2)
+
+text-read : (sc : Scope) (n : List ℕ) (d : Definition) (fs : List (List ℕ)) → defineName n ≡ value n → textRead sc n fs ≡ value d → Passes d
+text-read sc n d [] p h = never h
+text-read sc n d (f ∷ fs) p h =
+    let u = and-then (fieldText sc f) _ d h in
+    let v = and-then (defineText (u .0)) _ d (u .2) in
+    rw (← last-read sc (definition n (v .0)) d fs (v .2)) (p, text-again (u .0) (v .0) (v .1))
+
+definition-read : (sc : Scope) (d : Definition) (fs : List (List ℕ)) → definitionRead sc fs ≡ value d → Passes d
+unfolding definitionRead
+definition-read sc d [] h = never h
+definition-read sc d (f ∷ fs) h =
+    let u = and-then (fieldText sc f) _ d h in
+    let v = and-then (defineName (u .0)) _ d (u .2) in
+    text-read sc (v .0) d fs (name-again (u .0) (v .0) (v .1)) (v .2)
+
+-- so all its checks are that of the number
+pub defined-read : (sc : Scope) (d : Definition) (fs : List (List ℕ)) → definitionRead sc fs ≡ value d → (ds : List Definition) → definedIn d ds ≡ defineIn d ds
+defined-read sc d fs h ds = let p = definition-read sc d fs h in rw (p .0, p .1)
+
+-- ---- the line is the definition and then the number of names
+module _ (sc : Scope) (s : State) where
+  -- the state with a definition more, or that it is one too many
+  abbrev pub numbered : Definition → Reading Cause State
+  numbered d = andThen (defineIn d (s .definitions)) (λ ds. value (withDefinition d s))
+
+  line-last : (d : Definition) (fs : List (List ℕ)) → defined sc s d fs ≡ andThen (lastRead sc d fs) numbered
+  line-last d [] = refl
+  line-last d (f ∷ fs) = go (fieldText sc f)
+    where
+      go : (o : Reading Cause (List ℕ)) → andThen o (λ t. fault SurplusField) ≡ andThen (andThen o (λ t. fault SurplusField)) numbered
+      go (fault c) = refl
+      go (value t) = refl
+
+  line-text : (n : List ℕ) (fs : List (List ℕ)) → textAfter sc s n fs ≡ andThen (textRead sc n fs) numbered
+  line-text n [] = refl
+  line-text n (f ∷ fs) = go (fieldText sc f)
+    where
+      checked : (o : Reading Cause (List ℕ)) → andThen o (λ u. defined sc s (definition n u) fs) ≡ andThen (andThen o (λ u. lastRead sc (definition n u) fs)) numbered
+      checked (fault c) = refl
+      checked (value u) = line-last (definition n u) fs
+
+      go : (o : Reading Cause (List ℕ)) → andThen o (λ t. andThen (defineText t) (λ u. defined sc s (definition n u) fs)) ≡ andThen (andThen o (λ t. andThen (defineText t) (λ u. lastRead sc (definition n u) fs))) numbered
+      go (fault c) = refl
+      go (value t) = checked (defineText t)
+
+  pub define-line : (fs : List (List ℕ)) → defineLine sc s fs ≡ andThen (definitionRead sc fs) numbered
+  unfolding defineLine definitionRead
+  define-line [] = refl
+  define-line (f ∷ fs) = go (fieldText sc f)
+    where
+      checked : (o : Reading Cause (List ℕ)) → andThen o (λ n. textAfter sc s n fs) ≡ andThen (andThen o (λ n. textRead sc n fs)) numbered
+      checked (fault c) = refl
+      checked (value n) = line-text n fs
+
+      go : (o : Reading Cause (List ℕ)) → andThen o (λ t. andThen (defineName t) (λ n. textAfter sc s n fs)) ≡ andThen (andThen o (λ t. andThen (defineName t) (λ n. textRead sc n fs))) numbered
+      go (fault c) = refl
+      go (value t) = checked (defineName t)

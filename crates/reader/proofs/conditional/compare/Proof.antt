@@ -1,0 +1,61 @@
+use native.Mathlib.Omega.{arith}
+use borrow.Author.Needs.{needs}
+use Rattle.line.specs.Contract.{fieldsIn}
+use Rattle.line.proofs.AccessLaws.{fields-count}
+use Rattle.reader.proofs.WordLaws.{text-fault, text-value, text-room, text-length}
+use Rattle.reader.proofs.ConditionalLaws.{left-missing, left-fault, left-there}
+use Rattle.reader.proofs.conditional.compare.Statement.{statement}
+use Rattle.reader.proofs.conditional.compare.Tie as tie
+
+at-most-requires : tie.Need-at-most-requires
+at-most-requires c κs = search needs
+
+returns : tie.Need-returns
+returns c = λ deeper s. let a = c .before .before .before .before .before .args in left-missing _ deeper s (fieldsIn (a .text .now) (a .ends .now) (a .count)) (a .from) (omega (arith, fields-count (a .text .now) (a .ends .now) (a .count)))
+
+field-requires : tie.Need-field-requires
+field-requires c κs = search needs
+
+field-text-requires : tie.Need-field-text-requires
+field-text-requires c κs = search needs
+
+enum-known-cause : tie.Need-enum-known-cause
+enum-known-cause c = search needs
+
+enum-known-n : tie.Need-enum-known-n
+enum-known-n c = search needs
+
+array-share-prefix-scratch : tie.Need-array-share-prefix-scratch
+array-share-prefix-scratch c = text-room (c .before .before .before .field-text .ensures) (c .before .n .given .1) (omega arith)
+
+slice-aggregate-compare-with : tie.Need-slice-aggregate-compare-with
+slice-aggregate-compare-with c = text-length (c .before .before .before .before .field-text .ensures) (c .before .before .n .given .1) (omega arith)
+
+add-compare-with : tie.Need-add-compare-with
+add-compare-with c = search needs
+
+compare-with-requires : tie.Need-compare-with-requires
+compare-with-requires c κs = search needs
+
+returns-2 : tie.Need-returns-2
+returns-2 c = λ deeper s. let a = c .before .before .before .before .before .before .before .before .before .before .before .args in let n = fields-count (a .text .now) (a .ends .now) (a .count) in left-fault _ deeper s (fieldsIn (a .text .now) (a .ends .now) (a .count)) (a .from) (omega (arith, n)) (c .before .before .before .before .before .field .ensures) (text-fault (c .before .before .before .field-text .ensures) (c .before .cause .given .1))
+
+returns-3 : tie.Need-returns-3
+returns-3 c = λ deeper s. let a = c .before .before .before .before .before .before .before .before .before .before .before .before .before .args in let n = fields-count (a .text .now) (a .ends .now) (a .count) in left-there _ deeper s (fieldsIn (a .text .now) (a .ends .now) (a .count)) (a .from) (omega (arith, n)) (c .before .before .before .before .before .before .before .field .ensures) (c .compare-with .result) (text-value (c .before .before .before .before .before .field-text .ensures) (c .before .before .before .n .given .1)) (c .compare-with .ensures deeper s)
+
+pub compare-spec : {M : Type 1} → statement M
+compare-spec =
+    tie.close
+    (tie.spec
+    at-most-requires
+    returns
+    field-requires
+    field-text-requires
+    enum-known-cause
+    enum-known-n
+    array-share-prefix-scratch
+    slice-aggregate-compare-with
+    add-compare-with
+    compare-with-requires
+    returns-2
+    returns-3)

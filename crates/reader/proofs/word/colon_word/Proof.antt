@@ -1,0 +1,42 @@
+use native.Mathlib.Omega.{arith}
+use borrow.Author.Needs.{needs}
+use Rattle.reader.proofs.WordLaws.{then-fault, then-value, text-fault, text-value, text-room, text-length}
+use Rattle.reader.proofs.word.colon_word.Statement.{statement}
+use Rattle.reader.proofs.word.colon_word.Tie as tie
+
+field-text-requires : tie.Need-field-text-requires
+field-text-requires c κs = search needs
+
+enum-known-cause : tie.Need-enum-known-cause
+enum-known-cause c = search needs
+
+enum-known-n : tie.Need-enum-known-n
+enum-known-n c = search needs
+
+array-share-prefix-scratch : tie.Need-array-share-prefix-scratch
+array-share-prefix-scratch c = text-room (c .before .before .before .field-text .ensures) (c .before .n .given .1) (omega arith)
+
+slice-aggregate-word-in : tie.Need-slice-aggregate-word-in
+slice-aggregate-word-in c = text-length (c .before .before .before .before .field-text .ensures) (c .before .before .n .given .1) (omega arith)
+
+word-in-requires : tie.Need-word-in-requires
+word-in-requires c κs = search needs
+
+returns : tie.Need-returns
+returns c = λ deeper s fs. then-fault _ (text-fault (c .before .before .before .field-text .ensures) (c .before .cause .given .1))
+
+returns-2 : tie.Need-returns-2
+returns-2 c = λ deeper s fs. then-value _ (text-value (c .before .before .before .before .before .field-text .ensures) (c .before .before .before .n .given .1)) (c .word-in .ensures _ deeper s fs)
+
+pub colon-word-spec : {M : Type 1} → statement M
+colon-word-spec =
+    tie.close
+    (tie.spec
+    field-text-requires
+    enum-known-cause
+    enum-known-n
+    array-share-prefix-scratch
+    slice-aggregate-word-in
+    word-in-requires
+    returns
+    returns-2)

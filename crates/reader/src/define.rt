@@ -1,0 +1,146 @@
+// The name and the text of a `:define`.
+use fault::Cause;
+use line::fields::field;
+use line::scan::ScannedLine;
+use text::number::at_most;
+use variables::Variables;
+use variables::definition::Checked;
+use variables::definition::check_name;
+use variables::definition::check_text;
+use variables::field::FieldText;
+use variables::field::field_text;
+ghost use Prim.Native.Nat.{ℕ, _≤_};
+ghost use mathlib.Core.Path.{_≡_};
+ghost use mathlib.Core.List.{List, _∷_};
+ghost use lib.ListN.{length, drop};
+ghost use Rattle.fault.specs.Fault.{fault, value as good, andThen};
+ghost use Rattle.line.specs.Contract.{fieldsIn};
+ghost use Rattle.variables.specs.Scope.{Definition, definition};
+ghost use Rattle.variables.specs.Contract.{scopeIn, textReading, lengthTold};
+ghost use Rattle.reader.specs.Contract.{lastRead, textRead, definitionRead, definitionIn, Within};
+
+// How many bytes name and text have, each in its buffer.
+pub enum DefinitionRead {
+    Fault(Cause),
+    Good(usize, usize),
+}
+
+// The fault of a field behind the text: its own, or that it stands there.
+fn surplus<'a>(
+    written: &[u8],
+    user: &[u8],
+    host: &[u8],
+    bytes: &'a [u8; Variables::BYTES],
+    sizes: &'a [usize; Variables::SIZES],
+    names: usize,
+) -> Cause
+    ensures { λ r. ⌜ ((d : Definition) (fs : List (List ℕ)) → lastRead (scopeIn (now (user .entry)) (now (host .entry)) (now (bytes .entry)) (now (sizes .entry)) names) d (now (written .entry) ∷ fs) ≡ fault r) ⌝ }
+{
+    let mut scratch = [0u8; FieldText::BYTES];
+    match field_text(bytes, sizes, names, user, host, written, &mut scratch) {
+        FieldText::Fault(cause) => cause,
+        FieldText::Text(_) => Cause::SurplusField,
+    }
+}
+
+// The text behind the name, at the beginning of the lent buffer, and that nothing stands behind it.
+fn read_text<'a, 'b>(
+    text: &'a [u8],
+    ends: &'a [usize; 64],
+    count: usize,
+    from: usize,
+    user: &[u8],
+    host: &[u8],
+    bytes: &'b [u8; Variables::BYTES],
+    sizes: &'b [usize; Variables::SIZES],
+    names: usize,
+    value: &mut [u8; FieldText::BYTES],
+) -> FieldText
+    ensures { λ r. ⌜ ((n : List ℕ) → andThen (textReading (now (value .exit)) r) (λ t. good (definition n t)) ≡ textRead (scopeIn (now (user .entry)) (now (host .entry)) (now (bytes .entry)) (now (sizes .entry)) names) n (drop from (fieldsIn (now (text .entry)) (now (ends .entry)) count))) × (lengthTold r ≤ length (now (value .exit))) ⌝ }
+{
+    let most = at_most(count, ScannedLine::FIELDS);
+    if from >= most {
+        return FieldText::Fault(Cause::MissingPart);
+    }
+    match field_text(
+        bytes,
+        sizes,
+        names,
+        user,
+        host,
+        field(text, ends, count, from),
+        value,
+    ) {
+        FieldText::Fault(cause) => FieldText::Fault(cause),
+        FieldText::Text(n) => {
+            let all = &value[..];
+            if let Checked::Fault(cause) = check_text(&all[..n]) {
+                return FieldText::Fault(cause);
+            }
+            if from + 1 < most {
+                return FieldText::Fault(surplus(
+                    field(text, ends, count, from + 1),
+                    user,
+                    host,
+                    bytes,
+                    sizes,
+                    names,
+                ));
+            }
+            FieldText::Text(n)
+        }
+    }
+}
+
+// The definition that the fields make from one of them on: its name and its text, at the beginnings of the lent buffers.
+pub fn read_definition<'a, 'b>(
+    text: &'a [u8],
+    ends: &'a [usize; 64],
+    count: usize,
+    from: usize,
+    user: &[u8],
+    host: &[u8],
+    bytes: &'b [u8; Variables::BYTES],
+    sizes: &'b [usize; Variables::SIZES],
+    names: usize,
+    name: &mut [u8; FieldText::BYTES],
+    value: &mut [u8; FieldText::BYTES],
+) -> DefinitionRead
+    ensures { λ r. ⌜ (definitionIn (now (name .exit)) (now (value .exit)) r ≡ definitionRead (scopeIn (now (user .entry)) (now (host .entry)) (now (bytes .entry)) (now (sizes .entry)) names) (drop from (fieldsIn (now (text .entry)) (now (ends .entry)) count))) × Within (now (name .exit)) (now (value .exit)) r ⌝ }
+{
+    if from >= at_most(count, ScannedLine::FIELDS) {
+        return DefinitionRead::Fault(Cause::MissingPart);
+    }
+    match field_text(
+        bytes,
+        sizes,
+        names,
+        user,
+        host,
+        field(text, ends, count, from),
+        name,
+    ) {
+        FieldText::Fault(cause) => DefinitionRead::Fault(cause),
+        FieldText::Text(n) => {
+            let all = &name[..];
+            if let Checked::Fault(cause) = check_name(&all[..n]) {
+                return DefinitionRead::Fault(cause);
+            }
+            match read_text(
+                text,
+                ends,
+                count,
+                from + 1,
+                user,
+                host,
+                bytes,
+                sizes,
+                names,
+                value,
+            ) {
+                FieldText::Fault(cause) => DefinitionRead::Fault(cause),
+                FieldText::Text(m) => DefinitionRead::Good(n, m),
+            }
+        }
+    }
+}
