@@ -1,3 +1,7 @@
 pub mod CutLaws
 pub mod MeaningLaws
 pub mod Worked
+pub mod GrantLaws
+pub mod TableLaws
+pub mod ArmLaws
+pub mod CallLaws

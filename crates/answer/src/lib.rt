@@ -1,4 +1,8 @@
 // The answer to a question from a table.
+pub mod call; // the whole call
+mod grant; // what is told and written beside a permit
+mod table; // the control lines of a table, one after the other
+
 use fault::Cause;
 use options::span::Span;
 use options::timeout::Timeout;
