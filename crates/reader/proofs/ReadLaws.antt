@@ -25,8 +25,8 @@ use Rattle.entry.specs.Verdict.{Verdict, verdictOf}
 use Rattle.reader.specs.State.{State, decidedAt, scopeOf, withDefinition, withSettings, withEntry}
 use Rattle.reader.specs.Colon.{defined, textAfter, defineLine, globalField, globalLine, operatorOf, operatorHolds, restIf, rightAfter, operatorAfter, ifLine, colonWord}
 use Rattle.reader.specs.Read.{judgeFor, entryLine, byKind, fieldsRead, ifDepth, lineRead}
-use Rattle.line.specs.Scan.{scanned}
 use Rattle.line.specs.declared.kind.LineKind.the-variants.{NoField, Colon, Entry as EntryKind}
+use Rattle.line.specs.Scan.{scanned}
 
 -- what a control line with this number makes of the state s: it stays, has one definition more, the options of a `:global` line, or one entry more
 pub data Change (q : Question) (line : ℕ) (s t : State) : Type 0 where

@@ -1,5 +1,5 @@
 -- The ids that an entry sets have at most 64 bytes. Assumes nothing.
-use mathlib.Core.Bool.{false, not, _&&_}
+use mathlib.Core.Bool.{Bool, true, false, not, _&&_}
 use mathlib.Core.List.{List, [], _∷_, _++_}
 use mathlib.Core.Option.{Option, none, some}
 use Prim.Native.Nat.{ℕ, _+_}
@@ -20,7 +20,7 @@ use Rattle.variables.specs.Substitute.{fieldText}
 use Rattle.options.specs.Read.{Setting, optionOf, twice}
 use Rattle.condition.specs.Rightmost.{Judged}
 use Rattle.condition.specs.Condition.{Sort, user, group, time, conditionOf, Judge}
-use Rattle.entry.specs.Field.{Entry, FieldRead, conditionPart, noField, followed, Position, first, pairs, rest, second, fullPath, hasPair, pairAt, pairOf, commandOf, pathField, optionOr, otherOf, fieldOf}
+use Rattle.entry.specs.Field.{Entry, FieldRead, fieldRead, conditionPart, noField, followed, Position, first, pairs, rest, second, fullPath, hasPair, pairAt, pairOf, commandOf, pathField, optionOr, otherOf, fieldOf}
 use Rattle.entry.specs.Entry.{fieldsFrom, completed, entryOf}
 use Rattle.reader.proofs.ReadLaws.{sets}
 use Rattle.reader.proofs.ShortSettings.{ShortSetting, Offers, short-option}

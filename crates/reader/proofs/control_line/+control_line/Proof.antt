@@ -1,5 +1,5 @@
+use Prim.Native.Nat.{ℕ, _<_}
 use mathlib.Core.Path.{sym, _∙_}
-use Prim.Native.Nat.{ℕ}
 use native.Mathlib.Omega.{arith}
 use borrow.Author.Needs.{needs}
 use borrow.Fn.Kinds.{In}
@@ -7,11 +7,15 @@ use borrow.Fn.PlainCycle.{Measures, is, falls, and}
 use lib.ListN.{drop}
 use Rattle.line.specs.Contract.{fieldsIn}
 use Rattle.reader.proofs.ControlLineLaws.{line-room, scope-parts, line-nothing, line-entry, line-early, line-word, if-deep, if-compared}
-use Rattle.reader.proofs.control_line.+control_line.{statement}
-use Rattle.reader.proofs.control_line.+control_line.Tie.{close}
 use Rattle.reader.proofs.control_line.control_line.Reads as control-line
 use Rattle.reader.proofs.control_line.control_line.Kinds as control-line-kinds
 use Rattle.reader.proofs.control_line.+control_line.Lts-control_line as control-line-lts
+use Rattle.line.proofs.fields.field.Reads as field-reads
+use Rattle.line.proofs.kind.kind_of.Reads as kind-of-reads
+use Rattle.reader.proofs.conditional.compare.Reads as compare-reads
+use Rattle.reader.proofs.word.colon_word.Reads as colon-word-reads
+use Rattle.reader.proofs.control_line.+control_line.{statement}
+use Rattle.reader.proofs.control_line.+control_line.Tie.{close}
 
 abbrev μ-control-line : Measures 4 control-line-kinds.ps ℕ
 μ-control-line κs a = a .1 .1 .1 .1 .0
