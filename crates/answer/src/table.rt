@@ -21,7 +21,6 @@ use text::number::at_most;
 use variables::field::FieldText;
 ghost use Prim.Native.Nat.{_≤_};
 ghost use mathlib.Core.Path.{_≡_};
-ghost use mathlib.Core.Bool.{false};
 ghost use lib.ListN.{length};
 ghost use Rattle.fault.specs.Fault.{value};
 ghost use Rattle.question.specs.Question.{Question};
@@ -36,19 +35,6 @@ struct Decision {
     verdict: Verdict,
     path: usize,
     options: OptionSet,
-}
-
-// Before the first line.
-fn no_decision() -> Decision
-    ensures { λ r. ⌜ r .made ≡ false ⌝ }
-{
-    Decision {
-        made: false,
-        line: 0,
-        verdict: Verdict::Permit,
-        path: 0,
-        options: OptionSet::new(),
-    }
 }
 
 // The answer where no line has a fault.
@@ -89,7 +75,13 @@ pub fn read_table(
     ensures { λ r. ⌜ ((q : Question) → AskedWith q (now (command .entry)) (now (user .entry)) (now (groups .entry)) (now (host .entry)) minute last (now (args .entry)) → result r (now (buffer .exit)) ≡ settled (now (buffer .entry)) (linesGive q (now (table .entry)))) ⌝ }
 {
     let mut reader = Reader::new();
-    let mut decision = no_decision();
+    let mut decision = Decision {
+        made: false,
+        line: 0,
+        verdict: Verdict::Permit,
+        path: 0,
+        options: OptionSet::new(),
+    };
     let mut path = [0u8; Path::BYTES];
     let mut scratch = [0u8; FieldText::BYTES];
     let mut text = [0u8; ScannedLine::JOINED];

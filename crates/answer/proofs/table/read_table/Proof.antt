@@ -1,7 +1,7 @@
-use mathlib.Core.Path.{_≡_, sym, ap, _∙_}
-use Prim.Native.Nat.{ℕ, _+_, _-_, _≤_}
 use native.Mathlib.Omega.{arith}
 use borrow.Author.Needs.{needs}
+use mathlib.Core.Path.{_≡_, refl, sym, ap, _∙_}
+use Prim.Native.Nat.{ℕ, _+_, _-_, _≤_}
 use lib.ListN.{length, length-replicate}
 use Rattle.question.specs.Question.{Question}
 use Rattle.line.proofs.ScanLaws.{scans-length, scans-fault, scans-good}
@@ -11,6 +11,18 @@ use Rattle.answer.proofs.TableLaws.{SoFar, so-start, so-end, so-cut, so
 use Rattle.answer.proofs.ArmLaws.{ends-kept, arm-fault, arm-nothing, arm-define-fault, arm-defined, arm-global-fault, arm-set, arm-entry-fault, arm-passed, arm-decided}
 use Rattle.answer.proofs.table.read_table.Statement.{statement}
 use Rattle.answer.proofs.table.read_table.Tie as tie
+use Rattle.answer.proofs.table.read_table.Reads as reads
+use Rattle.answer.proofs.table.read_table.Lts as lts
+use Rattle.answer.proofs.table.settle.Reads as settle-reads
+use Rattle.entry_line.proofs.decide.decide.Reads as decide-reads
+use Rattle.entry_line.proofs.read.read_entry.Reads as read-entry-reads
+use Rattle.line.proofs.ends.control_end.Reads as control-end-reads
+use Rattle.line.proofs.scan.scan_line.Reads as scan-line-reads
+use Rattle.options.proofs.set.OptionSet.new.Reads as set-OptionSet-new-reads
+use Rattle.reader.proofs.control_line.control_line.Reads as control-line-reads
+use Rattle.reader.proofs.state.Reader.define.Reads as define-reads
+use Rattle.reader.proofs.state.Reader.global.Reads as global-reads
+use Rattle.reader.proofs.state.Reader.new.Reads as state-Reader-new-reads
 
 abbrev Inv-loop : tie.InvT-loop
 Inv-loop table command user groups host minute last args buffer reader₀ decision₀ path₀ scratch₀ text₀ ends₀ at₀ number₀ reader decision path scratch text ends at number =
@@ -22,11 +34,11 @@ abbrev μ-loop : tie.MeasureT-loop
 new-requires : tie.Need-new-requires Inv-loop μ-loop
 new-requires c κs = search needs
 
-no-decision-requires : tie.Need-no-decision-requires Inv-loop μ-loop
-no-decision-requires c κs = search needs
+new-requires-2 : tie.Need-new-requires-2 Inv-loop μ-loop
+new-requires-2 c κs = search needs
 
 loop-holds : tie.Need-loop-holds Inv-loop μ-loop
-loop-holds c = (omega arith, omega arith, length-replicate {A = ℕ} 4096 0, length-replicate {A = ℕ} 64 0, λ q a. so-start q _ (c .before .new .ensures (q .args)) (c .no-decision .ensures))
+loop-holds c = (omega arith, omega arith, length-replicate {A = ℕ} 4096 0, length-replicate {A = ℕ} 64 0, λ q a. so-start q _ (c .before .new .ensures (q .args)) refl)
 
 control-end-requires : tie.Need-control-end-requires Inv-loop μ-loop
 control-end-requires c κs = search needs
@@ -44,7 +56,7 @@ add-number : tie.Need-add-number Inv-loop μ-loop
 add-number c = let w = (rw (c .before .end .given .1) at (c .before .before .before .control-end .ensures)) in omega (arith, w .few, w .high, c .before .before .before .before .before .loop .inv .0, c .before .before .before .before .before .loop .inv .1, c .before .before .before .before .before .before .before .before .before .before .before .before .before .before .before .pre .1)
 
 add-if1 : tie.Need-add-if1 Inv-loop μ-loop
-add-if1 c = omega arith
+add-if1 c = omega (arith, c .before .before .before .before .before .loop .inv .0, c .before .before .before .before .before .before .before .before .before .before .before .before .before .before .before .pre .1)
 
 loop-less : tie.Need-loop-less Inv-loop μ-loop
 loop-less c = let w = (rw (c .before .before .end .given .1) at (c .before .before .before .before .control-end .ensures)) in omega (arith, w .low, w .high)
@@ -231,7 +243,7 @@ read-table-spec =
     Inv-loop
     μ-loop
     new-requires
-    no-decision-requires
+    new-requires-2
     loop-holds
     control-end-requires
     enum-known-end
