@@ -1,0 +1,10 @@
+pub mod DecimalLaws
+pub mod NumberLaws
+pub mod PartLaws
+pub mod PieceLaws
+pub mod PrintLaws
+pub mod Examples
+pub mod WorkedLines
+pub mod LimitLaws
+pub mod ResponseLaws
+pub mod RespondLaws

@@ -1,0 +1,51 @@
+-- The laws of the call that answers a question line. Assumes nothing.
+use mathlib.Core.Path.{_≡_, ap, _∙_}
+use mathlib.Core.List.{List}
+use Prim.Native.Nat.{ℕ, _+_, _≤_}
+use native.Mathlib.Omega.{arith}
+use lib.ListN.{length, replicate}
+use Rattle.text.specs.Contract.{Wrote}
+use Rattle.text.specs.declared.buffer.Filled.{Filled}
+use Rattle.text.specs.declared.buffer.Filled.the-variants.{Done, Full}
+use Rattle.text.proofs.Buffers.{wrote-done}
+use Rattle.answer.specs.declared.Answer.{Answer}
+use Rattle.answer.specs.declared.Answer.the-variants.{MalformedQuestion}
+use Rattle.answer.specs.Answer.{leastBuffer, result, Told, toldOf, toldBy}
+use Rattle.answer.specs.Meaning.{answerOf}
+use Rattle.console.specs.declared.«question_line».Pieces.{Pieces}
+use Rattle.console.specs.declared.«question_line».QuestionLine.{QuestionLine}
+use Rattle.console.specs.declared.«question_line».QuestionLine.the-variants.{Asks, Malformed}
+use Rattle.console.specs.declared.respond.Response.the-variants.{Written}
+use Rattle.console.specs.QuestionLine.{askedIn}
+use Rattle.console.specs.Printed.{printed}
+use Rattle.console.specs.Console.{toldFor, response}
+use Rattle.console.specs.Contract.{part, Placed, Reads}
+use Rattle.console.specs.Respond.{Responds}
+use Rattle.console.proofs.PartLaws.{fits}
+use Rattle.console.proofs.ResponseLaws.{response-length}
+
+-- a line that was read
+module _ {line scratch : List ℕ} {r : QuestionLine} (w : Reads line (askedIn line) scratch r) where
+  pub pieces-placed : {p : Pieces} → r ≡ Asks p → Placed line (Asks p)
+  pieces-placed e = rw e at (w .placed)
+
+  pub malformed-told : (table b : List ℕ) → r ≡ Malformed → toldOf MalformedQuestion b ≡ toldFor table (askedIn line)
+  unfolding toldOf
+  malformed-told table b e = rw (← rw e at (w .asks))
+
+  pub asked-told : (table : List ℕ) {p : Pieces} {a : Answer} {old new : List ℕ} → r ≡ Asks p → old ≡ replicate leastBuffer 0
+      → result a new ≡ answerOf table (record { command = part line 0 (p .command); user = part line (p .command + 1) (p .user); groups = part scratch 0 (p .groups); host = part line (p .list + 1) (p .host); minute = p .minute; age = p .last; args = part scratch (p .groups) (p .args) }) old
+      → toldOf a new ≡ toldFor table (askedIn line)
+  asked-told table e b f = rw (← rw e at (w .asks)) (ap toldBy f ∙ rw b)
+
+-- the printed line of what was told is the response
+module _ (table line : List ℕ) {old new : List ℕ} {u : Told} {r : Filled} (w : Wrote old new 0 (printed u) r) (e : u ≡ toldFor table (askedIn line)) (h : 2048 ≤ length old) where
+  wrote-response : Wrote old new 0 (response table line) r
+  unfolding response
+  wrote-response = rw e at w
+
+  pub response-fits : r ≡ Full → ⊥
+  response-fits f = fits wrote-response (omega (arith, response-length table line)) f
+
+  pub responded : {n : ℕ} → r ≡ Done n → Responds table line old new (Written n)
+  responded f = let d = wrote-done wrote-response f in (h, omega (arith, d .1), wrote-response .bytes)

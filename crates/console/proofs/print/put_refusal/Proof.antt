@@ -1,0 +1,50 @@
+use borrow.Author.Needs.{needs}
+use Rattle.console.specs.Printed.{refusalText}
+use Rattle.console.proofs.print.put_refusal.Statement.{statement}
+use Rattle.console.proofs.print.put_refusal.Tie as tie
+
+slice-aggregate-put-all : tie.Need-slice-aggregate-put-all
+slice-aggregate-put-all c = search needs
+
+put-all-requires : tie.Need-put-all-requires
+put-all-requires c κs = search needs
+
+then-decimal-requires : tie.Need-then-decimal-requires
+then-decimal-requires c κs = search needs
+
+slice-aggregate-then-all : tie.Need-slice-aggregate-then-all
+slice-aggregate-then-all c = search needs
+
+then-all-requires : tie.Need-then-all-requires
+then-all-requires c κs = search needs
+
+then-decimal-requires-2 : tie.Need-then-decimal-requires-2
+then-decimal-requires-2 c κs = search needs
+
+slice-aggregate-then-all-2 : tie.Need-slice-aggregate-then-all-2
+slice-aggregate-then-all-2 c = search needs
+
+then-all-requires-2 : tie.Need-then-all-requires-2
+then-all-requires-2 c κs = search needs
+
+same-length : tie.Need-same-length
+same-length c = search needs
+
+returns : tie.Need-returns
+unfolding refusalText
+returns c = c .before .before .then-all2 .ensures _ _ _ (c .before .before .before .before .before .before .before .then-decimal2 .ensures _ _ _ (c .before .before .before .before .before .before .before .before .before .before .before .then-all .ensures _ _ _ (c .before .before .before .before .before .before .before .before .before .before .before .before .before .before .before .before .then-decimal .ensures _ _ _ (c .before .before .before .before .before .before .before .before .before .before .before .before .before .before .before .before .before .before .before .before .put-all .ensures))))
+
+pub put-refusal-spec : {M : Type 1} → statement M
+put-refusal-spec =
+    tie.close
+    (tie.spec
+    slice-aggregate-put-all
+    put-all-requires
+    then-decimal-requires
+    slice-aggregate-then-all
+    then-all-requires
+    then-decimal-requires-2
+    slice-aggregate-then-all-2
+    then-all-requires-2
+    same-length
+    returns)

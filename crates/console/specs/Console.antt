@@ -1,0 +1,19 @@
+-- The line printed for a question line, from a table (01: "A small program prints one line for each question line").
+use mathlib.Core.List.{List}
+use mathlib.Core.Option.{Option, none, some}
+use Prim.Native.Nat.{ℕ}
+use lib.ListN.{replicate}
+use Rattle.answer.specs.Answer.{leastBuffer, Told, told, atPlace, toldBy}
+use Rattle.answer.specs.Meaning.{Asked, answerOf}
+use Rattle.console.specs.QuestionLine.{askedIn}
+use Rattle.console.specs.Printed.{printed}
+
+-- "a line not of this form, `refused 10 0`"; else what the table answers, with a new buffer
+abbrev pub toldFor : List ℕ → Option Asked → Told
+toldFor table none = told 10 (atPlace 0)
+toldFor table (some asked) = toldBy (answerOf table asked (replicate leastBuffer 0))
+
+-- what is printed for a line without its newline
+unfoldable pub response : List ℕ → List ℕ → List ℕ
+unfolding printed askedIn
+response table line = printed (toldFor table (askedIn line))

@@ -1,0 +1,6 @@
+pub mod QuestionLine
+pub mod Decimal
+pub mod Printed
+pub mod Console
+pub mod Contract
+pub mod Respond
