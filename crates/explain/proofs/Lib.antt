@@ -1,0 +1,8 @@
+pub mod DecimalLaws
+pub mod BehindLaws
+pub mod PlaceLaws
+pub mod RowLaws
+pub mod WordsLaws
+pub mod ExplainLaws
+pub mod MeaningLaws
+pub mod Examples

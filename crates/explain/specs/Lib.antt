@@ -1,0 +1,5 @@
+pub mod Behind
+pub mod Decimal
+pub mod Place
+pub mod Words
+pub mod Explained

@@ -1,0 +1,111 @@
+// What is printed for a table that was asked a question.
+use super::behind::then_all;
+use super::behind::then_decimal;
+use super::place::line_number;
+use super::place::line_start;
+use super::row::then_rows;
+use super::words::then_words;
+use answer::Answer;
+use fault::Cause;
+use text::buffer::Filled;
+use text::buffer::put_all;
+use text::number::at_most;
+ghost use Prim.Native.Nat.{_≤_};
+ghost use lib.ListN.{length};
+ghost use Rattle.text.specs.Contract.{Wrote};
+ghost use Rattle.fault.specs.Fault.{numberOf};
+ghost use Rattle.explain.specs.Behind.{WroteAfter};
+ghost use Rattle.explain.specs.Words.{wordsOf};
+ghost use Rattle.explain.specs.Explained.{refused, position, refusal, refusalAt, explained};
+
+// The number of the line and the column, each behind a colon.
+fn then_position(filled: Filled, table: &[u8], place: usize, out: &mut [u8]) -> Filled
+    requires { ⌜ place ≤ length (now table) ⌝ }
+    ensures { λ r. ⌜ WroteAfter filled (now (out .entry)) (now (out .exit)) (position (now (table .entry)) place) r ⌝ }
+{
+    let start = line_start(table, place);
+    let number = line_number(table, place);
+    let line = then_decimal(then_all(filled, b":", out), number, out);
+    then_decimal(then_all(line, b":", out), place - start + 1, out)
+}
+
+// The number of the refusal, with what stands round it.
+fn then_refused(filled: Filled, number: u8, out: &mut [u8]) -> Filled
+    ensures { λ r. ⌜ WroteAfter filled (now (out .entry)) (now (out .exit)) (refused number) r ⌝ }
+{
+    let numbered = then_decimal(then_all(filled, b": refused ", out), number as usize, out);
+    then_all(numbered, b": ", out)
+}
+
+// A refusal that has no place in a line.
+fn then_refusal(filled: Filled, number: u8, words: &[u8], out: &mut [u8]) -> Filled
+    ensures { λ r. ⌜ WroteAfter filled (now (out .entry)) (now (out .exit)) (refusal number (now (words .entry))) r ⌝ }
+{
+    let head = then_refused(filled, number, out);
+    then_all(then_all(head, words, out), b"\n", out)
+}
+
+// A refusal with its place.
+fn then_refusal_at(
+    filled: Filled,
+    number: u8,
+    words: &[u8],
+    table: &[u8],
+    place: usize,
+    out: &mut [u8],
+) -> Filled
+    requires { ⌜ place ≤ length (now table) ⌝ }
+    ensures { λ r. ⌜ WroteAfter filled (now (out .entry)) (now (out .exit)) (refusalAt (now (table .entry)) place number (now (words .entry))) r ⌝ }
+{
+    let placed = then_position(filled, table, place, out);
+    let told = then_refusal(placed, number, words, out);
+    then_rows(told, table, place, out)
+}
+
+// The refusal of a control line, by its cause.
+fn then_fault_at(filled: Filled, cause: Cause, table: &[u8], place: usize, out: &mut [u8]) -> Filled
+    requires { ⌜ place ≤ length (now table) ⌝ }
+    ensures { λ r. ⌜ WroteAfter filled (now (out .entry)) (now (out .exit)) (refusalAt (now (table .entry)) place (numberOf cause) (wordsOf cause)) r ⌝ }
+{
+    let placed = then_position(filled, table, place, out);
+    let head = then_refused(placed, cause.number(), out);
+    let told = then_all(then_words(head, cause, out), b"\n", out);
+    then_rows(told, table, place, out)
+}
+
+// The name of the table, and that it is ok or what is wrong with it; a place past the table's end is its end.
+pub fn explain(name: &[u8], table: &[u8], answer: Answer, out: &mut [u8]) -> Filled
+    ensures { λ r. ⌜ Wrote (now (out .entry)) (now (out .exit)) 0 (explained (now (name .entry)) (now (table .entry)) answer) r ⌝ }
+{
+    let named = put_all(out, 0, name);
+    match answer {
+        Answer::MalformedQuestion => then_all(named, b": refused 10 0\n", out),
+        Answer::LongTable => then_refusal(
+            named,
+            11,
+            b"the table has more than 32,768 bytes; remove comments or entries",
+            out,
+        ),
+        Answer::RefusedByte(place) => then_refusal_at(
+            named,
+            12,
+            b"a table holds plain ASCII text only, and no carriage return, accented letter or curly quote; remove or replace this byte",
+            table,
+            at_most(place, table.len()),
+            out,
+        ),
+        Answer::CutShort(place) => then_refusal_at(
+            named,
+            13,
+            b"the table ends before this line does; copy the whole table again, or end the line with a newline that is not behind a backslash",
+            table,
+            at_most(place, table.len()),
+            out,
+        ),
+        Answer::RefusedLine(cause, place) => {
+            then_fault_at(named, cause, table, at_most(place, table.len()), out)
+        }
+        Answer::SmallBuffer => then_all(named, b": refused 17 0\n", out),
+        _ => then_all(named, b": ok\n", out),
+    }
+}
