@@ -18,13 +18,14 @@ pub fn reply(case_line: &[u8]) -> Vec<u8> {
 }
 
 /// One case.
-struct Case {
-    table: Vec<u8>,
-    question: Question,
-    buffer_length: u64,
+pub struct Case {
+    pub table: Vec<u8>,
+    pub question: Question,
+    pub buffer_length: u64,
 }
 
-fn read_case(line: &[u8]) -> Option<Case> {
+/// Read a case line; one not of the form gives nothing.
+pub fn read_case(line: &[u8]) -> Option<Case> {
     let fields: Vec<&[u8]> = line.split(|byte| *byte == b'\t').collect();
     let [table, command, user, groups, host, minute, age, arguments, buffer_length] = fields[..]
     else {

@@ -10,7 +10,6 @@ pub mod hexadecimal;
 pub mod lines;
 pub mod options;
 pub mod pattern;
-pub mod probe;
 pub mod program;
 pub mod question;
 pub mod reader;

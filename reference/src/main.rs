@@ -1,17 +1,13 @@
-//! The program: answers question lines, cases or probe lines from standard input.
+//! The program: answers question lines or cases from standard input.
 
 use std::fs::File;
 use std::io::{self, BufRead, BufWriter, ErrorKind, Read, Write};
 use std::process::ExitCode;
 
-use rule_table::{answer, cases, probe, program};
+use rule_table::{answer, cases, program};
 
 const USAGE: &str = "usage: reference TABLE < questions
-       reference --cases < cases
-       reference --probe < lines";
-
-/// The stack of the thread that answers probe lines, whose patterns may nest deeply.
-const PROBE_STACK: usize = 256 << 20;
+       reference --cases < cases";
 
 fn main() -> ExitCode {
     let arguments: Vec<_> = std::env::args_os().skip(1).collect();
@@ -20,15 +16,6 @@ fn main() -> ExitCode {
     };
     match argument.to_str() {
         Some("--cases") => finish(reply_to_lines(cases::reply)),
-        Some("--probe") => {
-            let answer_lines = || reply_to_lines(probe::reply);
-            let thread = std::thread::Builder::new().stack_size(PROBE_STACK).spawn(answer_lines);
-            match thread.map(|handle| handle.join()) {
-                Ok(Ok(result)) => finish(result),
-                Ok(Err(_)) => ExitCode::FAILURE,
-                Err(error) => fail(&format!("reference: cannot start a thread: {error}")),
-            }
-        }
         Some(other) if other.starts_with('-') => fail(USAGE),
         _ => match read_table(argument) {
             Ok(table) => finish(reply_to_lines(|line| program::reply(&table, line))),

@@ -3,6 +3,9 @@
 use crate::answer::{self, Answer, Permission, BUFFER_LENGTH};
 use crate::question::Question;
 
+/// The most bytes of a question line, its newline not counted.
+pub const LINE_LENGTH: usize = 32_768;
+
 /// The line, without its newline, printed for one question line without its newline.
 pub fn reply(table: &[u8], question_line: &[u8]) -> Vec<u8> {
     let Some(question) = read_question_line(question_line) else {
@@ -15,7 +18,7 @@ pub fn reply(table: &[u8], question_line: &[u8]) -> Vec<u8> {
 /// Read `COMMAND USER GROUPS HOST MINUTE AGE ARGS`; a line not of this form gives nothing.
 pub fn read_question_line(line: &[u8]) -> Option<Question> {
     let pieces: Vec<&[u8]> = line.split(|byte| *byte == b' ').collect();
-    if pieces.len() < 6 {
+    if line.len() > LINE_LENGTH || pieces.len() < 6 {
         return None;
     }
     let groups = match pieces[2] {

@@ -39,6 +39,19 @@ fn questions_from_standard_input() {
     assert_eq!(run(&[&name], b"").stdout, b"");
 }
 
+/// "A question line has at most 32,768 bytes": leading zeros of the minute fill it up.
+#[test]
+fn the_longest_question_line() {
+    let name = format!("{}/longest.tab", env!("CARGO_TARGET_TMPDIR"));
+    std::fs::write(&name, WORKED).expect("a table is written");
+    let line = |zeros: usize| format!("setclock ann - van2 {}1049 15", "0".repeat(zeros));
+    let room = 32_768 - line(0).len();
+    let good = run(&[&name], line(room).as_bytes());
+    assert_eq!(good.stdout, b"permit 3 /sbin/setclock\n");
+    let long = run(&[&name], line(room + 1).as_bytes());
+    assert_eq!(long.stdout, b"refused 10 0\n");
+}
+
 #[test]
 fn a_table_that_cannot_be_read() {
     for name in ["/nonexistent/table", "/"] {

@@ -1,0 +1,193 @@
+/* supertab.h: who may run which command, from a rule table in the style of super.tab.
+ *
+ * One function: it takes a table, a question and two lent buffers, and gives a numbered answer. It keeps nothing between
+ * calls, needs no heap and may be called from several threads at once. Link libsupertab_c.a.
+ *
+ * For C11 and for C++. The manual page supertab(1) has the rules of a table in brief.
+ */
+#ifndef SUPERTAB_H
+#define SUPERTAB_H
+
+#include <stdbool.h>
+#include <stddef.h>
+#include <stdint.h>
+
+#ifdef __cplusplus
+extern "C" {
+#endif
+
+/* The answer. 0 to 5 are decisions, 10 to 18 refusals. */
+enum {
+    /* The command may be run. */
+    SUPERTAB_PERMIT = 0,
+    /* It may be run once the user has given the password. */
+    SUPERTAB_PASSWORD = 1,
+    /* No entry accepts the question. */
+    SUPERTAB_NO_ENTRY = 2,
+    /* The deciding entry does not allow this number of arguments. */
+    SUPERTAB_STOPPED_BY_NARGS = 3,
+    /* An argument does not match an argument pattern that covers it. */
+    SUPERTAB_STOPPED_BY_ARGUMENT = 4,
+    /* The path is longer than 1,024 bytes. */
+    SUPERTAB_STOPPED_BY_PATH = 5,
+    /* The question is not as the arguments below say. */
+    SUPERTAB_BAD_QUESTION = 10,
+    /* The table has more than 32,768 bytes. */
+    SUPERTAB_LONG_TABLE = 11,
+    /* The table has a byte other than tab, newline and 0x20 to 0x7E. */
+    SUPERTAB_REFUSED_BYTE = 12,
+    /* The table is cut short: its last control line is not ended. */
+    SUPERTAB_CUT_SHORT = 13,
+    /* A control line is malformed. */
+    SUPERTAB_MALFORMED = 14,
+    /* A control line passes a size. */
+    SUPERTAB_SIZE = 15,
+    /* An entry stands before patterns=shell, or another kind of patterns is asked for. */
+    SUPERTAB_PATTERN_KIND = 16,
+    /* The answer buffer has fewer than SUPERTAB_BUFFER_LENGTH bytes. */
+    SUPERTAB_SMALL_BUFFER = 17,
+    /* :define makes more than 64 names. */
+    SUPERTAB_TOO_MANY_NAMES = 18,
+    /* The report has fewer than SUPERTAB_REPORT_LENGTH numbers: nothing was looked at, nothing was written. */
+    SUPERTAB_SMALL_REPORT = 255
+};
+
+/* The fewest elements of the two lent arrays. */
+enum {
+    /* Bytes of the answer buffer. */
+    SUPERTAB_BUFFER_LENGTH = 2048,
+    /* Numbers of the report. */
+    SUPERTAB_REPORT_LENGTH = 24
+};
+
+/* The numbers of the report, by their index. One that means nothing for the answer is 0. */
+enum {
+    /* Answers 0, 1, 3, 4 and 5: the deciding line, which is the number, from 1, of the first physical line of its
+     * control line. Answer 2: 0. Refusals: the place, counted in bytes from 0: 10 and 17: 0; 11: 32,768; 12: the byte;
+     * 13, 14, 15, 16 and 18: where the control line begins. */
+    SUPERTAB_REPORT_LINE_OR_PLACE = 0,
+    /* Answers 0 and 1: how many bytes of the buffer were written. */
+    SUPERTAB_REPORT_WRITTEN = 1,
+    /* Answers 0 and 1: 1 where auth=y is in force. */
+    SUPERTAB_REPORT_AUTH = 2,
+    /* Answers 0 and 1: 1 where a timeout is set, and its minutes, from -32,768 to 32,767. */
+    SUPERTAB_REPORT_TIMEOUT_SET = 3,
+    SUPERTAB_REPORT_TIMEOUT = 4,
+    /* Answers 0 and 1: 1 where nargs is set, and the least and the most number of arguments, from 0 to 64. */
+    SUPERTAB_REPORT_NARGS_SET = 5,
+    SUPERTAB_REPORT_NARGS_LOW = 6,
+    SUPERTAB_REPORT_NARGS_HIGH = 7,
+    /* Answers 0 and 1: the place in the buffer of the zero byte that ends each of the five strings. The path begins at
+     * 0, each other string behind the zero byte of the one before it. An option that is not set is an empty string. */
+    SUPERTAB_REPORT_PATH_END = 8,
+    SUPERTAB_REPORT_UID_END = 9,
+    SUPERTAB_REPORT_EUID_END = 10,
+    SUPERTAB_REPORT_GID_END = 11,
+    SUPERTAB_REPORT_EGID_END = 12,
+    /* 13 to 20 are 0 and kept for later. */
+    /* Answers 14, 15, 16 and 18: the cause, one of those below. */
+    SUPERTAB_REPORT_CAUSE = 21
+    /* 22 and 23 are 0 and kept for later. */
+};
+
+/* The causes for which a control line is refused, each with the answer that it gives. */
+enum {
+    /* 15: the joined line has more than 4,096 bytes. */
+    SUPERTAB_CAUSE_LINE_LENGTH = 1,
+    /* 14: a continuation line, or the line itself, is not indented as it must be. */
+    SUPERTAB_CAUSE_INDENT = 2,
+    /* 14: a quote is open at the line's end. */
+    SUPERTAB_CAUSE_OPEN_QUOTE = 3,
+    /* 15: there are more than 64 fields. */
+    SUPERTAB_CAUSE_FIELD_COUNT = 4,
+    /* 14: `$` before no name, or before an unknown one. */
+    SUPERTAB_CAUSE_VARIABLE = 5,
+    /* 15: a field has more than 1,024 bytes after substitution. */
+    SUPERTAB_CAUSE_FIELD_LENGTH = 6,
+    /* 14: a set is open, empty or has a range that runs backwards, a brace list is open, a `}` closes none, or a
+     * backslash is last. */
+    SUPERTAB_CAUSE_PATTERN = 7,
+    /* 15: braces are more than 4 deep, or have more than 64 expansions. */
+    SUPERTAB_CAUSE_PATTERN_SIZE = 8,
+    /* 15: the name of a variable has more than 64 bytes. */
+    SUPERTAB_CAUSE_NAME_LENGTH = 9,
+    /* 15: the text of a variable has more than 256 bytes. */
+    SUPERTAB_CAUSE_TEXT_LENGTH = 10,
+    /* 15: a user or group name in an option has more than 64 bytes. */
+    SUPERTAB_CAUSE_ID_LENGTH = 11,
+    /* 15: a fifth :if stands inside the others. */
+    SUPERTAB_CAUSE_IF_DEPTH = 12,
+    /* 14: a user or group alternative has an empty part, a second `@`, or a byte that cannot stand there. */
+    SUPERTAB_CAUSE_ALTERNATIVE = 13,
+    /* 14: a time item is none of the forms. */
+    SUPERTAB_CAUSE_TIME_ITEM = 14,
+    /* 14: no option has the name before `=` on this kind of line. */
+    SUPERTAB_CAUSE_OPTION_NAME = 15,
+    /* 14: the value is none that the option takes. */
+    SUPERTAB_CAUSE_OPTION_VALUE = 16,
+    /* 16: the pattern kind is not `shell`. */
+    SUPERTAB_CAUSE_PATTERN_KIND = 17,
+    /* 16: an entry stands before patterns=shell. */
+    SUPERTAB_CAUSE_ENTRY_TOO_EARLY = 18,
+    /* 14: no line begins with this colon word. */
+    SUPERTAB_CAUSE_COLON_WORD = 19,
+    /* 14: the name of a variable is malformed or built in. */
+    SUPERTAB_CAUSE_DEFINE_NAME = 20,
+    /* 14: the operator is neither `==` nor `!=`. */
+    SUPERTAB_CAUSE_OPERATOR = 21,
+    /* 14: `::` stands behind the pairs. */
+    SUPERTAB_CAUSE_LATE_PAIR = 22,
+    /* 14: the path does not begin with `/`, or has a blank. */
+    SUPERTAB_CAUSE_PATH = 23,
+    /* 14: a field stands behind the last one that the line takes. */
+    SUPERTAB_CAUSE_SURPLUS_FIELD = 24,
+    /* 14: a part of the line is missing. */
+    SUPERTAB_CAUSE_MISSING_PART = 25,
+    /* 14: the same option stands twice. */
+    SUPERTAB_CAUSE_OPTION_TWICE = 26,
+    /* 18: there are more than 64 names. */
+    SUPERTAB_CAUSE_TOO_MANY_NAMES = 27
+};
+
+/* Answers a question from a table.
+ *
+ * Every array is a pointer and the number of its elements. No pointer is NULL, also where the number is 0. `buffer` and
+ * `report` overlap nothing else that is passed. Any bytes and any numbers may be passed: what is not as said here is
+ * answered by a number and never read past its end.
+ *
+ *   table          the whole table, at most 32,768 bytes; no zero byte ends it
+ *   command        1 to 256 bytes from 0x21 to 0x7E without `:`, not beginning with `/`; no component between slashes is
+ *                  empty, `.` or `..`
+ *   user           1 to 32 bytes of letters, digits, `.`, `_` and `-`
+ *   groups         the groups of the user, at most 32 of the same form as the user: strings one behind the other, each
+ *                  ended by a zero byte, so that the last byte is zero; no bytes for no group
+ *   host           1 to 255 bytes of the same alphabet
+ *   minute         the minute of the week, 0 to 10,079; Monday 0:00 is 0; a larger one makes the question bad
+ *   authenticated  false where the user never gave the password; `age` is then not looked at
+ *   age            the minutes since the user last gave it; below zero where the clock went back
+ *   args           the arguments of the command, at most 64 of at most 256 bytes from 0x20 to 0x7E: strings as in
+ *                  `groups`; no bytes for no argument, one zero byte for one empty argument
+ *   buffer         at least 2,048 bytes. Answers 0 and 1 write five strings at its front, each ended by a zero byte:
+ *                  path, uid, euid, gid, egid. Later bytes stay, and every other answer leaves all of it as it was.
+ *   report         at least 24 numbers. The first 24 are written, by every answer but 255; later numbers stay.
+ *
+ * The result is the answer. Where several apply: 255 first, then 17, 10, 11, 12, then the control lines in their order,
+ * the first faulty one deciding; a table that is cut short comes behind the faults of its whole lines. Only a table
+ * without a fault gives a decision.
+ */
+uint8_t supertab_answer(const uint8_t *table, size_t table_length,
+                        const uint8_t *command, size_t command_length,
+                        const uint8_t *user, size_t user_length,
+                        const uint8_t *groups, size_t groups_length,
+                        const uint8_t *host, size_t host_length,
+                        uint32_t minute,
+                        bool authenticated, int32_t age,
+                        const uint8_t *args, size_t args_length,
+                        uint8_t *buffer, size_t buffer_length,
+                        int64_t *report, size_t report_length);
+
+#ifdef __cplusplus
+}
+#endif
+
+#endif

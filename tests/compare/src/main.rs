@@ -1,0 +1,152 @@
+//! The call of the static library and the reference in one process.
+
+mod bench;
+mod call;
+mod cuts;
+mod fuzz;
+mod grammar;
+mod lent;
+mod random;
+mod tables;
+
+use std::fs;
+use std::io::{self, BufRead, BufWriter, Write};
+use std::path::Path;
+use std::process::ExitCode;
+
+use rule_table::cases;
+
+use call::{difference, Asked, Caller};
+
+const USAGE: &str = "usage: compare --cases < cases
+           print the call's answer to each case line
+       compare --check [TABLES] < cases
+           compare the call with the reference on each case line, and try every cut of each table
+           that gives a decision, or of the first TABLES such tables
+       compare --fuzz ROUNDS SEED
+           compare them on random and damaged bytes in every argument
+       compare --bench [TABLE]
+           time them on the tables, or on those of one name
+       compare --call TABLE ROUNDS
+           only call the library so often on the tables of one name, for a profiler
+       compare --tables FOLDER
+           write those tables as files";
+
+fn main() -> ExitCode {
+    let words: Vec<String> =
+        std::env::args_os().skip(1).map(|word| word.to_string_lossy().into_owned()).collect();
+    let words: Vec<&str> = words.iter().map(String::as_str).collect();
+    let result = match words[..] {
+        ["--cases"] => answer_cases().map(|()| true),
+        ["--check"] => check_cases(u64::MAX),
+        ["--check", tables] => match tables.parse() {
+            Ok(tables) => check_cases(tables),
+            Err(_) => return wrong_use(),
+        },
+        ["--fuzz", rounds, seed] => match (rounds.parse(), seed.parse()) {
+            (Ok(rounds), Ok(seed)) => Ok(counted(fuzz::run(rounds, seed))),
+            _ => return wrong_use(),
+        },
+        ["--bench"] => Ok(bench::run(None) == 0),
+        ["--bench", name] => Ok(bench::run(Some(name)) == 0),
+        ["--call", name, rounds] => match rounds.parse() {
+            Ok(rounds) => {
+                let bytes = bench::repeat(name, rounds);
+                println!("{bytes} bytes");
+                Ok(bytes > 0)
+            }
+            Err(_) => return wrong_use(),
+        },
+        ["--tables", folder] => write_tables(Path::new(folder)).map(|()| true),
+        _ => return wrong_use(),
+    };
+    match result {
+        Ok(true) => ExitCode::SUCCESS,
+        Ok(false) => ExitCode::FAILURE,
+        Err(error) => {
+            eprintln!("compare: {error}");
+            ExitCode::from(2)
+        }
+    }
+}
+
+fn wrong_use() -> ExitCode {
+    eprintln!("{USAGE}");
+    ExitCode::from(2)
+}
+
+/// Print how many passed and failed, and tell whether none failed.
+fn counted((passed, failed): (u64, u64)) -> bool {
+    println!("{passed} passed, {failed} failed");
+    failed == 0
+}
+
+/// Do something with each line of standard input, its number and its bytes.
+fn for_lines(mut each: impl FnMut(u64, &[u8]) -> io::Result<()>) -> io::Result<()> {
+    let mut input = io::stdin().lock();
+    let mut line = Vec::new();
+    let mut number = 0;
+    while input.read_until(b'\n', &mut line)? > 0 {
+        number += 1;
+        each(number, line.strip_suffix(b"\n").unwrap_or(&line))?;
+        line.clear();
+    }
+    Ok(())
+}
+
+fn answer_cases() -> io::Result<()> {
+    let mut caller = Caller::new();
+    let mut output = BufWriter::new(io::stdout().lock());
+    for_lines(|_, line| {
+        let printed = match cases::read_case(line) {
+            Some(case) => caller.call(&Asked::of_case(&case)).printed(),
+            None => "bad case".to_string(),
+        };
+        writeln!(output, "{printed}")
+    })?;
+    output.flush()
+}
+
+/// Compare on each case; of the first so many tables that give a decision, try every cut.
+fn check_cases(tables: u64) -> io::Result<bool> {
+    let mut caller = Caller::new();
+    let (mut passed, mut failed) = (0, 0);
+    let (mut cut_tables, mut cuts) = (0, 0);
+    for_lines(|number, line| {
+        let mut count = |wrong: Option<String>| match wrong {
+            None => passed += 1,
+            Some(wrong) => {
+                failed += 1;
+                println!("case {number}: {wrong}\n  {}", String::from_utf8_lossy(line));
+            }
+        };
+        let Some(case) = cases::read_case(line) else {
+            count(Some("bad case".to_string()));
+            return Ok(());
+        };
+        let asked = Asked::of_case(&case);
+        let whole = caller.call(&asked);
+        count(difference(&whole, &asked.expected()));
+        if whole.is_decision() && cut_tables < tables {
+            cut_tables += 1;
+            match cuts::check(&mut caller, &asked, &whole) {
+                Ok(tried) => {
+                    cuts += tried;
+                    count(None);
+                }
+                Err(wrong) => count(Some(wrong)),
+            }
+        }
+        Ok(())
+    })?;
+    println!("{cut_tables} tables with all cuts, {cuts} cuts");
+    Ok(counted((passed, failed)))
+}
+
+fn write_tables(folder: &Path) -> io::Result<()> {
+    for table in tables::all() {
+        let name = format!("{}-{}.tab", table.name, table.bytes.len());
+        fs::write(folder.join(name), &table.bytes)?;
+    }
+    Ok(())
+}
