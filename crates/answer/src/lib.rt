@@ -1,6 +1,7 @@
 // The answer to a question from a table.
 pub mod call; // the whole call
 mod grant; // what is told and written beside a permit
+pub mod number; // the number of every answer
 mod table; // the control lines of a table, one after the other
 
 use fault::Cause;

@@ -2,6 +2,7 @@
 use super::decimal::put_decimal;
 use answer::Answer;
 use answer::Granted;
+use answer::number::number_of;
 use options::span::Span;
 use options::timeout::Timeout;
 use text::buffer::Filled;
@@ -120,26 +121,6 @@ fn put_refusal(number: u8, place: usize, out: &mut [u8]) -> Filled
     let space = then_all(numbered, b" ", out);
     let placed = then_decimal(space, place, out);
     then_all(placed, b"\n", out)
-}
-
-// The number of an answer.
-pub fn number_of(answer: Answer) -> u8
-    ensures { λ r. ⌜ ((b : List ℕ) → r ≡ toldOf answer b .number) ⌝ }
-{
-    match answer {
-        Answer::Permit(_) => 0,
-        Answer::Password(_) => 1,
-        Answer::NoEntry => 2,
-        Answer::StoppedByNargs(_) => 3,
-        Answer::StoppedByArgument(_) => 4,
-        Answer::StoppedByPath(_) => 5,
-        Answer::MalformedQuestion => 10,
-        Answer::LongTable => 11,
-        Answer::RefusedByte(_) => 12,
-        Answer::CutShort(_) => 13,
-        Answer::RefusedLine(cause, _) => cause.number(),
-        Answer::SmallBuffer => 17,
-    }
 }
 
 // What a permit grants; any other answer grants nothing.

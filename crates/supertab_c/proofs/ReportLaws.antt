@@ -81,9 +81,6 @@ module _ {a b : Answer} (e : a ≡ b) where
   pub reported : {l : List ℤ} → l ≡ reportOf b → l ≡ reportOf a
   reported f = f ∙ ap reportOf (sym e)
 
-  pub numbered : {n : ℕ} → ((k : List ℕ) → n ≡ toldOf b k .number) → (k : List ℕ) → n ≡ toldOf a k .number
-  numbered f k = rw e (f k)
-
 -- numbers put at the front one by one
 module _ (old numbers new : List ℤ) (i : ℕ) (e : new ≡ paste old 0 numbers i) where
   pub put-next : {x : ℤ} → i < length numbers → i < length old → x ≡ getD numbers i (pos 0) → set new i x ≡ paste old 0 numbers (i + 1)

@@ -2,10 +2,10 @@
 use super::asked::last_of;
 use super::asked::minute_of;
 use super::report::Report;
-use super::report::number_of;
 use super::report::numbers_of;
 use super::report::put_numbers;
 use answer::call::answer;
+use answer::number::number_of;
 ghost use mathlib.Core.Path.{_≡_};
 ghost use Rattle.supertab_c.specs.Call.{askedBy, called, callOf};
 

@@ -8,7 +8,6 @@ ghost use Prim.Native.Nat.{ℕ, _≤_};
 ghost use mathlib.Core.Path.{_≡_};
 ghost use mathlib.Core.List.{List, _++_};
 ghost use lib.ListN.{length, drop};
-ghost use Rattle.answer.specs.Answer.{toldOf};
 ghost use Rattle.supertab_c.specs.Report.{reportLength, counted, zeroPlace, bit, timeoutSet, timeoutMinutes, nargsSet, nargsLow, nargsHigh, causeIndex, grantNumbers, placeNumbers, reportOf};
 
 pub struct Report;
@@ -208,26 +207,6 @@ pub fn numbers_of(answer: Answer) -> [i64; Report::LENGTH]
         Answer::CutShort(place) => of_place(place, 0),
         Answer::RefusedLine(cause, place) => of_place(place, index_of(cause)),
         Answer::SmallBuffer => of_place(0, 0),
-    }
-}
-
-// The answer's number.
-pub fn number_of(answer: Answer) -> u8
-    ensures { λ r. ⌜ ((b : List ℕ) → r ≡ toldOf answer b .number) ⌝ }
-{
-    match answer {
-        Answer::Permit(_) => 0,
-        Answer::Password(_) => 1,
-        Answer::NoEntry => 2,
-        Answer::StoppedByNargs(_) => 3,
-        Answer::StoppedByArgument(_) => 4,
-        Answer::StoppedByPath(_) => 5,
-        Answer::MalformedQuestion => 10,
-        Answer::LongTable => 11,
-        Answer::RefusedByte(_) => 12,
-        Answer::CutShort(_) => 13,
-        Answer::RefusedLine(cause, _) => cause.number(),
-        Answer::SmallBuffer => 17,
     }
 }
 

@@ -1,8 +1,8 @@
+use mathlib.Core.Path.{sym, ap, _∙_}
 use borrow.Author.Needs.{needs}
-use Rattle.supertab_c.proofs.ReportLaws.{numbered}
 use Rattle.answer.specs.Answer.{toldOf}
-use Rattle.supertab_c.proofs.report.number_of.Statement.{statement}
-use Rattle.supertab_c.proofs.report.number_of.Tie as tie
+use Rattle.answer.proofs.number.number_of.Statement.{statement}
+use Rattle.answer.proofs.number.number_of.Tie as tie
 
 enum-told : tie.Need-enum-told
 enum-told c = search needs
@@ -85,7 +85,7 @@ returns-10 c = λ b. simp (c .enum-told10 .given .1)
 
 returns-11 : tie.Need-returns-11
 unfolding toldOf
-returns-11 c = numbered (c .before .before .answer .given .1) (λ k. c .number .ensures)
+returns-11 c = λ b. c .number .ensures ∙ ap (λ x. toldOf x b .number) (sym (c .before .before .answer .given .1))
 
 returns-12 : tie.Need-returns-12
 unfolding toldOf
