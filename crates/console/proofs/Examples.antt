@@ -13,7 +13,7 @@ use Rattle.question.specs.declared.LastAuthentication.the-variants.{Never, Minu
 use Rattle.answer.specs.Answer.{Grant, Told, told, granted, atLine, atPlace}
 use Rattle.answer.specs.Meaning.{Asked}
 use Rattle.console.specs.QuestionLine.{numberIn, minuteIn, ageIn, groupsIn, argumentsIn, askedFrom, goodLine, askedIn}
-use Rattle.console.specs.Decimal.{written, decimal}
+use Rattle.output.specs.Decimal.{written, decimal}
 use Rattle.console.specs.Printed.{idText, grantText, stopText, refusalText, printed}
 use Rattle.options.specs.declared.timeout.Timeout.the-variants.{Unset, Minutes as TimeoutMinutes}
 

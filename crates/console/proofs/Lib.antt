@@ -1,4 +1,3 @@
-pub mod DecimalLaws
 pub mod NumberLaws
 pub mod PartLaws
 pub mod PieceLaws

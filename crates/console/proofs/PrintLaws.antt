@@ -1,7 +1,7 @@
 -- The laws of the printed line: which text an answer's number chooses. Assumes nothing.
 use mathlib.Core.Path.{_≡_, refl, sym, _∙_}
 use mathlib.Core.Bool.{cond}
-use mathlib.Core.List.{List, [], _∷_, _++_, append-nil, append-assoc}
+use mathlib.Core.List.{List, [], _∷_, _++_}
 use mathlib.Core.Logic.{_⊎_, inl, inr}
 use Prim.Native.Nat.{ℕ, _+_, _-_, _≤_, _<_, min}
 use native.Mathlib.Omega.{arith}
@@ -19,7 +19,7 @@ use Rattle.answer.specs.declared.Granted.{Granted}
 use Rattle.answer.specs.declared.Answer.{Answer}
 use Rattle.answer.specs.declared.Answer.the-variants.{Permit, Password, NoEntry, StoppedByNargs, StoppedByArgument, StoppedByPath, MalformedQuestion, LongTable, RefusedByte, CutShort, RefusedLine, SmallBuffer}
 use Rattle.answer.specs.Answer.{stringIn, grantIn, toldOf}
-use Rattle.console.specs.Decimal.{decimal}
+use Rattle.output.specs.Decimal.{decimal}
 use Rattle.console.specs.Printed.{idText, permitWord, grantText, stopText, refusalText, printed}
 use Rattle.console.specs.Contract.{noGrant, grantBeside, numberBeside}
 use Rattle.answer.proofs.Answer.{the-type}
@@ -50,17 +50,17 @@ module _ (b : List ℕ) (at end : ℕ) where
       past q g =
           rw (back from size, q, drop-of-length-le b g) (sym (take-nil (end - at - 1)))
 
--- an id that is not set, and one that is, behind what was put before
-module _ (xs name : List ℕ) where
-  pub id-unset : (id : List ℕ) → length id ≡ 0 → xs ++ idText name id ≡ xs
+-- an id that is not set, and one that is
+module _ (name : List ℕ) where
+  pub id-unset : (id : List ℕ) → length id ≡ 0 → idText name id ≡ []
   unfolding idText
-  id-unset [] h = append-nil xs
+  id-unset [] h = refl
   id-unset (b ∷ id) h = absurd (omega arith)
 
-  pub id-set : (id : List ℕ) → (length id ≡ 0 → ⊥) → xs ++ idText name id ≡ xs ++ name ++ id
+  pub id-set : (id : List ℕ) → (length id ≡ 0 → ⊥) → idText name id ≡ name ++ id
   unfolding idText
   id-set [] h = absurd (h refl)
-  id-set (b ∷ id) h = sym (append-assoc xs name (b ∷ id))
+  id-set (b ∷ id) h = refl
 
 -- the answers that the last arm of a `match` takes, by their tags
 pub no-grant : (a : Answer) → OneOf (2 ∷ 3 ∷ 4 ∷ 5 ∷ 6 ∷ 7 ∷ 8 ∷ 9 ∷ 10 ∷ 11 ∷ []) (tagOf the-type a) → noGrant ≡ grantBeside a

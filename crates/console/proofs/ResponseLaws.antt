@@ -29,7 +29,7 @@ use Rattle.answer.proofs.MeaningLaws.{verdictTold, decision-told}
 use Rattle.console.specs.QuestionLine.{askedIn}
 use Rattle.console.specs.Printed.{idText, permitWord, grantText, stopText, refusalText, printed}
 use Rattle.console.specs.Console.{toldFor, response}
-use Rattle.console.proofs.DecimalLaws.{decimal-short}
+use Rattle.output.proofs.DecimalLaws.{decimal-short}
 use Rattle.console.proofs.PrintLaws.{cause-number}
 use Rattle.console.proofs.LimitLaws.{refused-place, byte-place, decided-line}
 

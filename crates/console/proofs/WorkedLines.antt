@@ -5,7 +5,7 @@ use Prim.Native.Nat.{ℕ}
 use lib.ListN.{replicate}
 use Rattle.text.specs.Bytes.{bytes}
 use Rattle.console.specs.QuestionLine.{numberIn, minuteIn, ageIn, groupsIn, argumentsIn, askedFrom, goodLine, askedIn}
-use Rattle.console.specs.Decimal.{written, decimal}
+use Rattle.output.specs.Decimal.{written, decimal}
 use Rattle.console.specs.Printed.{idText, grantText, stopText, refusalText, printed}
 use Rattle.console.specs.Console.{response}
 

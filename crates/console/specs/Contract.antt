@@ -1,14 +1,13 @@
--- What the contracts of the functions say: numbers held at a limit, where the pieces of a line are, and bytes put behind others.
+-- What the contracts of the functions say: numbers held at a limit, where the pieces of a line are, and what stands beside an answer.
 use mathlib.Core.Path.{_≡_}
 use mathlib.Core.Bool.{false, cond}
-use mathlib.Core.List.{List, [], _++_}
+use mathlib.Core.List.{List, []}
 use mathlib.Core.Option.{Option, none, some}
 use Prim.Native.Nat.{ℕ, _+_, _-_, _≤_, _<_, min}
 use lib.Dec.{ltb}
 use lib.ListN.{length, take, drop}
 use Rattle.text.specs.Lists.{splitAt}
-use Rattle.text.specs.Contract.{lead, Wrote}
-use Rattle.text.specs.declared.buffer.Filled.{Filled}
+use Rattle.text.specs.Contract.{lead}
 use Rattle.question.specs.declared.WeekMinute.{WeekMinute}
 use Rattle.question.specs.declared.LastAuthentication.{LastAuthentication}
 use Rattle.options.specs.declared.timeout.Timeout.the-variants.{Unset}
@@ -93,10 +92,6 @@ pub record Reads (line : List ℕ) (asked : Option Asked) (scratch : List ℕ) (
   pub size : length scratch ≡ lineLimit
   pub asks : askedBy line scratch r ≡ asked
   pub placed : Placed line r
-
--- whatever had been put before, ys was put behind it
-abbrev pub WroteAfter : Filled → List ℕ → List ℕ → List ℕ → Filled → Type 0
-WroteAfter before mid new ys r = (old : List ℕ) (n : ℕ) (xs : List ℕ) → Wrote old mid n xs before → Wrote old new n (xs ++ ys) r
 
 -- what stands beside a permit, and beside any other answer
 abbrev pub noGrant : Granted

@@ -1,5 +1,4 @@
 pub mod QuestionLine
-pub mod Decimal
 pub mod Printed
 pub mod Console
 pub mod Contract

@@ -6,7 +6,7 @@ use lib.Dec.{eqb}
 use Rattle.text.specs.Bytes.{bytes}
 use Rattle.text.specs.Lists.{null}
 use Rattle.answer.specs.Answer.{Grant, Beside, granted, atLine, atPlace, Told}
-use Rattle.console.specs.Decimal.{decimal}
+use Rattle.output.specs.Decimal.{decimal}
 
 -- "Set options follow a path as ` uid=x`"; an id that is not set is empty
 unfoldable pub idText : List ℕ → List ℕ → List ℕ

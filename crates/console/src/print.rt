@@ -1,10 +1,11 @@
 // The printed line of an answer, with its newline.
-use super::decimal::put_decimal;
 use answer::Answer;
 use answer::Granted;
 use answer::number::number_of;
 use options::span::Span;
 use options::timeout::Timeout;
+use output::behind::then_all;
+use output::behind::then_decimal;
 use text::buffer::Filled;
 use text::buffer::put_all;
 use text::number::at_most;
@@ -13,29 +14,9 @@ ghost use mathlib.Core.Path.{_≡_};
 ghost use mathlib.Core.List.{List};
 ghost use Rattle.text.specs.Contract.{Wrote};
 ghost use Rattle.answer.specs.Answer.{stringIn, grantIn, toldOf};
-ghost use Rattle.console.specs.Decimal.{decimal};
+ghost use Rattle.output.specs.Behind.{WroteAfter};
 ghost use Rattle.console.specs.Printed.{idText, grantText, stopWord, stopText, refusalText, printed};
-ghost use Rattle.console.specs.Contract.{WroteAfter, grantBeside, numberBeside};
-
-// A slice behind what was put before, if that fitted.
-fn then_all(filled: Filled, s: &[u8], out: &mut [u8]) -> Filled
-    ensures { λ r. ⌜ WroteAfter filled (now (out .entry)) (now (out .exit)) (now (s .entry)) r ⌝ }
-{
-    match filled {
-        Filled::Full => Filled::Full,
-        Filled::Done(n) => put_all(out, n, s),
-    }
-}
-
-// A number behind what was put before.
-fn then_decimal(filled: Filled, v: usize, out: &mut [u8]) -> Filled
-    ensures { λ r. ⌜ WroteAfter filled (now (out .entry)) (now (out .exit)) (decimal v) r ⌝ }
-{
-    match filled {
-        Filled::Full => Filled::Full,
-        Filled::Done(n) => put_decimal(out, n, v),
-    }
-}
+ghost use Rattle.console.specs.Contract.{grantBeside, numberBeside};
 
 // An id behind what was put before, if it is set.
 fn then_id(filled: Filled, name: &[u8], id: &[u8], out: &mut [u8]) -> Filled

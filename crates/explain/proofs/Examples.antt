@@ -10,7 +10,7 @@ use Rattle.fault.specs.Fault.{numberOf}
 use Rattle.fault.specs.declared.Cause.the-variants.{Path}
 use Rattle.line.specs.Refused.{accepted}
 use Rattle.answer.specs.declared.Answer.the-variants.{NoEntry, RefusedByte, CutShort, RefusedLine}
-use Rattle.explain.specs.Decimal.{decimal, written}
+use Rattle.output.specs.Decimal.{decimal, written}
 use Rattle.explain.specs.Place.{lineNumber, lineStart, lineEnd, column, physicalLine, lineFront}
 use Rattle.explain.specs.Words.{wordsOf, refusedByteWords}
 use Rattle.explain.specs.Explained.{shownIn, rows, position, refused, refusal, refusalAt, finding, explained}

@@ -1,5 +1,3 @@
-pub mod DecimalLaws
-pub mod BehindLaws
 pub mod PlaceLaws
 pub mod RowLaws
 pub mod WordsLaws

@@ -8,7 +8,7 @@ use Rattle.fault.specs.Fault.{numberOf}
 use Rattle.line.specs.Refused.{accepted}
 use Rattle.answer.specs.declared.Answer.{Answer}
 use Rattle.answer.specs.declared.Answer.the-variants.{Permit, Password, NoEntry, StoppedByNargs, StoppedByArgument, StoppedByPath, MalformedQuestion, LongTable, RefusedByte, CutShort, RefusedLine, SmallBuffer}
-use Rattle.explain.specs.Decimal.{decimal}
+use Rattle.output.specs.Decimal.{decimal}
 use Rattle.explain.specs.Place.{lineNumber, column, physicalLine, lineFront}
 use Rattle.explain.specs.Words.{wordsOf, longTableWords, refusedByteWords, cutShortWords}
 use Rattle.explain.specs.declared.row.Row.{Row}

@@ -1,6 +1,4 @@
 // What is printed for a table that is checked: that it is ok, or what is wrong with it, where, and what to do.
-mod behind; // bytes put behind others
-mod decimal; // numbers in decimal digits
 mod place; // where a place of a table stands
 pub mod report; // what is printed
 mod row; // the physical line and the line of the caret

@@ -1,12 +1,12 @@
 // What is printed for a table that was asked a question.
-use super::behind::then_all;
-use super::behind::then_decimal;
 use super::place::line_number;
 use super::place::line_start;
 use super::row::then_rows;
 use super::words::then_words;
 use answer::Answer;
 use fault::Cause;
+use output::behind::then_all;
+use output::behind::then_decimal;
 use text::buffer::Filled;
 use text::buffer::put_all;
 use text::number::at_most;
@@ -14,7 +14,7 @@ ghost use Prim.Native.Nat.{_≤_};
 ghost use lib.ListN.{length};
 ghost use Rattle.text.specs.Contract.{Wrote};
 ghost use Rattle.fault.specs.Fault.{numberOf};
-ghost use Rattle.explain.specs.Behind.{WroteAfter};
+ghost use Rattle.output.specs.Behind.{WroteAfter};
 ghost use Rattle.explain.specs.Words.{wordsOf};
 ghost use Rattle.explain.specs.Explained.{refused, position, refusal, refusalAt, explained};
 

@@ -1,7 +1,7 @@
 // The two rows that show a place: its physical line, and below it the caret.
-use super::behind::then_all;
-use super::behind::then_byte;
 use super::place::line_start;
+use output::behind::then_all;
+use output::behind::then_byte;
 use text::buffer::Filled;
 use text::class::Class;
 use text::class::class_of;
@@ -10,7 +10,7 @@ ghost use Prim.Native.Nat.{_≤_};
 ghost use mathlib.Core.Path.{_≡_};
 ghost use mathlib.Core.List.{map};
 ghost use lib.ListN.{length};
-ghost use Rattle.explain.specs.Behind.{WroteAfter};
+ghost use Rattle.output.specs.Behind.{WroteAfter};
 ghost use Rattle.explain.specs.Explained.{shownIn, rows};
 
 // The row that a byte is printed in.

@@ -1,10 +1,10 @@
 // The words of each cause: what is wrong, a semicolon, and what to do.
-use super::behind::then_all;
 use fault::Cause;
+use output::behind::then_all;
 use text::buffer::Filled;
 ghost use mathlib.Core.Path.{_≡_};
 ghost use Rattle.fault.specs.Fault.{numberOf};
-ghost use Rattle.explain.specs.Behind.{WroteAfter};
+ghost use Rattle.output.specs.Behind.{WroteAfter};
 ghost use Rattle.explain.specs.Words.{wordsOf};
 
 // The words of a cause behind what was put before.

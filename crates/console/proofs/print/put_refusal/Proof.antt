@@ -32,7 +32,7 @@ same-length c = search needs
 
 returns : tie.Need-returns
 unfolding refusalText
-returns c = c .before .before .then-all2 .ensures _ _ _ (c .before .before .before .before .before .before .before .then-decimal2 .ensures _ _ _ (c .before .before .before .before .before .before .before .before .before .before .before .then-all .ensures _ _ _ (c .before .before .before .before .before .before .before .before .before .before .before .before .before .before .before .before .then-decimal .ensures _ _ _ (c .before .before .before .before .before .before .before .before .before .before .before .before .before .before .before .before .before .before .before .before .put-all .ensures))))
+returns c = c .before .before .then-all2 .ensures .behind _ _ _ (c .before .before .before .before .before .before .before .then-decimal2 .ensures .behind _ _ _ (c .before .before .before .before .before .before .before .before .before .before .before .then-all .ensures .behind _ _ _ (c .before .before .before .before .before .before .before .before .before .before .before .before .before .before .before .before .then-decimal .ensures .behind _ _ _ (c .before .before .before .before .before .before .before .before .before .before .before .before .before .before .before .before .before .before .before .before .put-all .ensures))))
 
 pub put-refusal-spec : {M : Type 1} → statement M
 put-refusal-spec =

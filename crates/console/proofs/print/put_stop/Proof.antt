@@ -20,7 +20,7 @@ same-length c = search needs
 
 returns : tie.Need-returns
 unfolding stopText
-returns c = c .before .before .then-stop-word .ensures _ _ _ (c .before .before .before .before .before .before .then-decimal .ensures _ _ _ (c .before .before .before .before .before .before .before .before .before .before .put-all .ensures))
+returns c = c .before .before .then-stop-word .ensures .behind _ _ _ (c .before .before .before .before .before .before .then-decimal .ensures .behind _ _ _ (c .before .before .before .before .before .before .before .before .before .before .put-all .ensures))
 
 pub put-stop-spec : {M : Type 1} → statement M
 put-stop-spec =

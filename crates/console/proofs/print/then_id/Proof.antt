@@ -1,11 +1,11 @@
 use borrow.Author.Needs.{needs}
-use Rattle.text.proofs.Buffers.{wrote-as}
+use Rattle.output.proofs.BehindLaws.{after-none, after-then, after-as}
 use Rattle.console.proofs.PrintLaws.{id-unset, id-set}
 use Rattle.console.proofs.print.then_id.Statement.{statement}
 use Rattle.console.proofs.print.then_id.Tie as tie
 
 returns : tie.Need-returns
-returns c = λ old n xs w. wrote-as w (id-unset xs _ _ (c .if1 .taken))
+returns c = after-as after-none (id-unset _ _ (c .if1 .taken))
 
 then-all-requires : tie.Need-then-all-requires
 then-all-requires c κs = search needs
@@ -17,7 +17,7 @@ same-length : tie.Need-same-length
 same-length c = search needs
 
 returns-2 : tie.Need-returns-2
-returns-2 c = λ old n xs w. wrote-as (c .before .before .then-all2 .ensures old n _ (c .before .before .before .before .before .before .then-all .ensures old n xs w)) (id-set xs _ _ (c .before .before .before .before .before .before .before .before .if1 .left))
+returns-2 c = after-as (after-then (c .before .before .before .before .before .before .then-all .ensures) (c .before .before .then-all2 .ensures)) (id-set _ _ (c .before .before .before .before .before .before .before .before .if1 .left))
 
 pub then-id-spec : {M : Type 1} → statement M
 then-id-spec =

@@ -1,5 +1,5 @@
 use borrow.Author.Needs.{needs}
-use Rattle.explain.proofs.BehindLaws.{after-then, after-as}
+use Rattle.output.proofs.BehindLaws.{after-then, after-as}
 use Rattle.explain.proofs.ExplainLaws.{fault-at-is}
 use Rattle.explain.proofs.report.then_fault_at.Statement.{statement}
 use Rattle.explain.proofs.report.then_fault_at.Tie as tie

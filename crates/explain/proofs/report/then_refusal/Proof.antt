@@ -1,5 +1,5 @@
 use borrow.Author.Needs.{needs}
-use Rattle.explain.proofs.BehindLaws.{after-then, after-as}
+use Rattle.output.proofs.BehindLaws.{after-then, after-as}
 use Rattle.explain.proofs.ExplainLaws.{refusal-is}
 use Rattle.explain.proofs.report.then_refusal.Statement.{statement}
 use Rattle.explain.proofs.report.then_refusal.Tie as tie

@@ -1,5 +1,5 @@
 use borrow.Author.Needs.{needs}
-use Rattle.explain.proofs.BehindLaws.{after-then, after-as}
+use Rattle.output.proofs.BehindLaws.{after-then, after-as}
 use Rattle.explain.proofs.ExplainLaws.{refused-is}
 use Rattle.explain.proofs.report.then_refused.Statement.{statement}
 use Rattle.explain.proofs.report.then_refused.Tie as tie

@@ -5,9 +5,9 @@ use native.Mathlib.Omega.{arith}
 use borrow.Author.Needs.{needs}
 use lib.ListN.{length, drop}
 use Rattle.text.specs.declared.buffer.Filled.{Filled}
-use Rattle.explain.specs.Behind.{WroteAfter}
+use Rattle.output.specs.Behind.{WroteAfter}
 use Rattle.explain.specs.Explained.{shownIn}
-use Rattle.explain.proofs.BehindLaws.{after-then, after-as, after-none}
+use Rattle.output.proofs.BehindLaws.{after-then, after-as, after-none}
 use Rattle.explain.proofs.RowLaws.{row-next, row-end}
 use Rattle.explain.proofs.row.then_row.Statement.{statement}
 use Rattle.explain.proofs.row.then_row.Tie as tie

@@ -1,6 +1,6 @@
 use native.Mathlib.Omega.{arith}
 use borrow.Author.Needs.{needs}
-use Rattle.explain.proofs.BehindLaws.{after-then, after-as}
+use Rattle.output.proofs.BehindLaws.{after-then, after-as}
 use Rattle.explain.proofs.ExplainLaws.{rows-are}
 use Rattle.explain.proofs.row.then_rows.Statement.{statement}
 use Rattle.explain.proofs.row.then_rows.Tie as tie

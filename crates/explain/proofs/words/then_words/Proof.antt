@@ -1,7 +1,7 @@
 use mathlib.Core.Path.{ap}
 use borrow.Author.Needs.{needs}
 use Rattle.explain.specs.Words.{wordsOf}
-use Rattle.explain.proofs.BehindLaws.{after-as}
+use Rattle.output.proofs.BehindLaws.{after-as}
 use Rattle.explain.proofs.WordsLaws.{malformed-number}
 use Rattle.explain.proofs.words.then_words.Statement.{statement}
 use Rattle.explain.proofs.words.then_words.Tie as tie

@@ -1,16 +1,16 @@
 use native.Mathlib.Omega.{arith}
 use borrow.Author.Needs.{needs}
 use Rattle.text.proofs.Buffers.{wrote-as, wrote-full, wrote-then}
-use Rattle.console.proofs.DecimalLaws.{tens-less, decimal-one, decimal-more}
+use Rattle.output.proofs.DecimalLaws.{tens-less, decimal-one, decimal-more}
 use Prim.Native.Nat.{ℕ, _<_}
 use borrow.Fn.Kinds.{In}
 use borrow.Fn.PlainCycle.{Measures, is, falls, and}
-use Rattle.console.proofs.decimal.put_decimal.Reads as put-decimal
-use Rattle.console.proofs.decimal.put_decimal.Kinds as put-decimal-kinds
-use Rattle.console.proofs.decimal.+put_decimal.Lts-put_decimal as put-decimal-lts
+use Rattle.output.proofs.decimal.put_decimal.Reads as put-decimal
+use Rattle.output.proofs.decimal.put_decimal.Kinds as put-decimal-kinds
+use Rattle.output.proofs.decimal.+put_decimal.Lts-put_decimal as put-decimal-lts
 use Rattle.text.proofs.buffer.put.Reads as put-reads
-use Rattle.console.proofs.decimal.+put_decimal.{statement}
-use Rattle.console.proofs.decimal.+put_decimal.Tie.{close}
+use Rattle.output.proofs.decimal.+put_decimal.{statement}
+use Rattle.output.proofs.decimal.+put_decimal.Tie.{close}
 
 abbrev μ-put-decimal : Measures 1 put-decimal-kinds.ps ℕ
 μ-put-decimal κs a = a .1 .1 .0

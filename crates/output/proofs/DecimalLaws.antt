@@ -11,7 +11,7 @@ use lib.ListN.{length, length-append}
 use Rattle.text.specs.Number.{digits}
 use Rattle.text.specs.Class.{digit}
 use Rattle.text.proofs.Laws.{clash}
-use Rattle.console.specs.Decimal.{digitByte, lastDigit, written, decimal}
+use Rattle.output.specs.Decimal.{digitByte, lastDigit, written, decimal}
 
 pub tens-less : (n : ℕ) → 10 ≤ n → n / 10 < n
 tens-less n h = omega arith

@@ -2,7 +2,7 @@
 use text::buffer::Filled;
 use text::buffer::put;
 ghost use Rattle.text.specs.Contract.{Wrote};
-ghost use Rattle.explain.specs.Decimal.{decimal};
+ghost use Rattle.output.specs.Decimal.{decimal};
 
 // The digits of the tens, then that of the ones.
 pub fn put_decimal(out: &mut [u8], n: usize, v: usize) -> Filled

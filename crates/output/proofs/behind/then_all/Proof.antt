@@ -1,7 +1,7 @@
 use borrow.Author.Needs.{needs}
-use Rattle.text.proofs.Buffers.{wrote-then, wrote-full}
-use Rattle.console.proofs.print.then_all.Statement.{statement}
-use Rattle.console.proofs.print.then_all.Tie as tie
+use Rattle.output.proofs.BehindLaws.{after-done, after-full}
+use Rattle.output.proofs.behind.then_all.Statement.{statement}
+use Rattle.output.proofs.behind.then_all.Tie as tie
 
 enum-told : tie.Need-enum-told
 enum-told c = search needs
@@ -13,13 +13,13 @@ put-all-requires : tie.Need-put-all-requires
 put-all-requires c κs = search needs
 
 returns : tie.Need-returns
-returns c = λ old n xs w. wrote-full w (c .enum-told .given .1) _
+returns c = after-full _ (c .enum-told .given .1)
 
 same-length : tie.Need-same-length
 same-length c = search needs
 
 returns-2 : tie.Need-returns-2
-returns-2 c = λ old n xs w. wrote-then w (c .before .before .before .before .before .filled .given .1) (c .before .before .put-all .ensures)
+returns-2 c = after-done (c .before .before .before .before .before .filled .given .1) (c .before .before .put-all .ensures)
 
 pub then-all-spec : {M : Type 1} → statement M
 then-all-spec =

@@ -4,8 +4,8 @@ use text::buffer::Filled;
 use text::buffer::put;
 use text::buffer::put_all;
 ghost use mathlib.Core.List.{[], _∷_};
-ghost use Rattle.explain.specs.Behind.{WroteAfter};
-ghost use Rattle.explain.specs.Decimal.{decimal};
+ghost use Rattle.output.specs.Behind.{WroteAfter};
+ghost use Rattle.output.specs.Decimal.{decimal};
 
 // One byte.
 pub fn then_byte(filled: Filled, b: u8, out: &mut [u8]) -> Filled

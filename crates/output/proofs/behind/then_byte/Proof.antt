@@ -1,7 +1,7 @@
 use borrow.Author.Needs.{needs}
-use Rattle.explain.proofs.BehindLaws.{after-done, after-full}
-use Rattle.explain.proofs.behind.then_byte.Statement.{statement}
-use Rattle.explain.proofs.behind.then_byte.Tie as tie
+use Rattle.output.proofs.BehindLaws.{after-done, after-full}
+use Rattle.output.proofs.behind.then_byte.Statement.{statement}
+use Rattle.output.proofs.behind.then_byte.Tie as tie
 
 enum-told : tie.Need-enum-told
 enum-told c = search needs
