@@ -16,6 +16,7 @@ use Rattle.variables.specs.Scope.{Scope}
 use Rattle.variables.specs.Substitute.{fieldText}
 use Rattle.variables.specs.Contract.{Substitutes}
 use Rattle.variables.specs.declared.field.FieldText.{FieldText}
+use Rattle.variables.proofs.TextLaws.{text-value, text-short}
 use Rattle.options.specs.Arguments.{ArgumentPattern}
 use Rattle.options.specs.Read.{Setting, optionOf, twice}
 use Rattle.condition.specs.Condition.{Judge}
@@ -27,7 +28,6 @@ use Rattle.entry.specs.declared.own.Own.{Own}
 use Rattle.entry.proofs.EntryLaws.{entryAfter, entry-start, entry-end, entry-text, entry-fault, entry-on}
 use Rattle.entry.proofs.OtherLaws.{field-settings}
 use Rattle.entry.proofs.VerdictLaws.{sums-same}
-use Rattle.entry_line.proofs.FieldTextLaws.{text-told, text-short}
 use Rattle.variables.specs.declared.field.FieldText.the-variants.{Text}
 use Rattle.entry.specs.declared.entry.Entry.{Entry as Kept}
 
@@ -76,8 +76,8 @@ module _ {judge : Judge} {s : Scope} {j : Bool} {c : List ℕ} {texts : ℕ → 
     ahead = rw (e, ← next-of [] fs i l) (r .rest)
 
     -- a field that has no text would be a fault
-    pub reached-lost : {A : Type 0} {d : Cause} → fieldText s f ≡ fault d → A
-    reached-lost g = never (sym (entry-text judge s (r .sofar) (r .position) f (drop (i + 1) fs) g) ∙ ahead)
+    pub reached-lost : {A : Type 0} {d : Cause} → fault d ≡ fieldText s f → A
+    reached-lost g = never (sym (entry-text judge s (r .sofar) (r .position) f (drop (i + 1) fs) (sym g)) ∙ ahead)
 
     -- the next field: what is kept, and the settings
     pub reached-on : {old new : List ℕ} {a : Added} {o′ : Own} {u : FieldText} {n : ℕ} → Substitutes s f old new u → u ≡ Text n → texts i ≡ take n new
@@ -94,7 +94,7 @@ module _ {judge : Judge} {s : Scope} {j : Bool} {c : List ℕ} {texts : ℕ → 
         m = text-short v q
 
         g : fieldText s f ≡ value t
-        g = text-told v q
+        g = sym (text-value v q)
 
         go : (x : Reading Cause FieldRead) → fieldOf judge (r .position) t ≡ x → Adds j c texts (r .sofar) x a → Reached judge s j c texts ps xs (a .entry) o′ (drop (i + 1) fs) whole
         go (fault d) h z = never (sym (entry-fault judge s (r .sofar) (r .position) f (drop (i + 1) fs) g h) ∙ ahead)

@@ -7,7 +7,7 @@ use Prim.Native.Nat.{ℕ, _+_, _≤_, _<_, min}
 use native.Mathlib.Omega.{arith}
 use borrow.Author.Tests.{not-true, not-false, le-leb}
 use lib.Dec.{leb}
-use lib.ListN.{length, take, drop, getD, drop-of-length-le, length-take}
+use lib.ListN.{length, take, drop, getD, drop-of-length-le}
 use Rattle.text.specs.Lists.{null}
 use Rattle.text.proofs.Laws.{next-of, clash}
 use Rattle.fault.specs.Fault.{Reading, fault, value, andThen, require}
@@ -20,6 +20,7 @@ use Rattle.variables.specs.Scope.{Scope}
 use Rattle.variables.specs.Substitute.{fieldText}
 use Rattle.variables.specs.Contract.{verbatim, Substitutes}
 use Rattle.variables.specs.declared.field.FieldText.{FieldText}
+use Rattle.variables.proofs.TextLaws.{text-fault, text-value, text-short}
 use Rattle.variables.proofs.VerbatimLaws.{verbatim-text}
 use Rattle.options.specs.Read.{twice}
 use Rattle.condition.specs.Condition.{Judge}
@@ -43,13 +44,6 @@ abbrev stopped : Kept → Cause → Added
 stopped k d = record { entry = k; outcome = Fault d }
 
 -- ---- one field
--- a text that was written fits into the buffer
-pub text-fits : {s : Scope} {f old new : List ℕ} {x : FieldText} {n : ℕ} → x ≡ Text n → Substitutes s f old new x → length new ≡ 1024 → n ≡ length (take n new)
-text-fits {s} {f} {old} {new} {x} {n} g w l =
-    let v = rw g at w in
-    let b : n ≤ 1024 = v .fits in
-    rw (length-take n new) (omega (arith, b, l))
-
 module _ {j : Bool} {c : List ℕ} {t : ℕ → List ℕ} {e : Entry} (s : Scope) (f : List ℕ) (o : List ℕ → Reading Cause FieldRead) (i : ℕ) {r : Added} (te : t i ≡ textOr f (fieldText s f)) where
   -- a field that is its own text
   pub verbatim-added : verbatim f ≡ true → (t i ≡ f → Adds j c t e (require (leb (length f) 1024) FieldLength (o f)) r) → Adds j c t e (andThen (fieldText s f) o) r
@@ -61,16 +55,13 @@ module _ {j : Bool} {c : List ℕ} {t : ℕ → List ℕ} {e : Entry} (s : Scope
 
   -- a field whose text was written
   pub text-added : {old new : List ℕ} {x : FieldText} {n : ℕ} → x ≡ Text n → Substitutes s f old new x → (t i ≡ take n new → Adds j c t e (require (leb (length (take n new)) 1024) FieldLength (o (take n new))) r) → Adds j c t e (andThen (fieldText s f) o) r
-  text-added {old} {new} {x} {n} g w k =
-      let v = rw g at w in
-      let b : n ≤ 1024 = v .fits in
-      let l : length (take n new) ≤ 1024 = rw (length-take n new) (omega (arith, b)) in
-      let q : t i ≡ take n new = rw (← v .reading) at te in
-      rw (← v .reading) (rw (le-leb _ _ l) at (k q))
+  text-added g w k =
+      let v = text-value w g in
+      rw (← v) (rw (le-leb _ _ (text-short w g)) at (k (rw (← v) at te)))
 
 -- a field that has no text
 pub text-refused : {j : Bool} {c : List ℕ} {t : ℕ → List ℕ} {e : Entry} (s : Scope) (f : List ℕ) (o : List ℕ → Reading Cause FieldRead) {k : Kept} {old new : List ℕ} {x : FieldText} {d : Cause} → x ≡ NoText d → Substitutes s f old new x → Adds j c t e (andThen (fieldText s f) o) (stopped k d)
-text-refused s f o g w = let v = rw g at w in record { adds = rw (← v .reading) refl }
+text-refused s f o g w = record { adds = rw (← text-fault w g) refl }
 
 -- what was read of a field, by what came of it
 module _ {j : Bool} {c : List ℕ} {t : ℕ → List ℕ} {e : Entry} {r : Added} where

@@ -14,6 +14,7 @@ use Rattle.variables.specs.Substitute.{fieldText}
 use Rattle.variables.specs.Contract.{textReading, lengthTold, checkedReading, Substitutes}
 use Rattle.variables.specs.declared.definition.Checked.{Checked}
 use Rattle.variables.specs.declared.field.FieldText.{FieldText}
+use Rattle.variables.proofs.TextLaws.{text-fault, text-value, text-fits}
 use Rattle.variables.specs.declared.definition.Checked.the-variants.{Good, Fault as NotGood}
 use Rattle.variables.specs.declared.field.FieldText.the-variants.{Text, Fault as NoText}
 
@@ -30,14 +31,14 @@ module _ (text ends : List ℕ) (count : ℕ) {m : ℕ} (e : m ≡ min count 64)
 -- what an answer tells of a field's text
 module _ {sc : Scope} {f old new : List ℕ} {r : FieldText} (w : Substitutes sc f old new r) where
   pub told-fault : {c : Cause} → r ≡ NoText c → fault c ≡ fieldText sc f
-  told-fault e = rw e at (w .reading)
+  told-fault = text-fault w
 
   module _ {n : ℕ} (e : r ≡ Text n) where
     pub told-text : value (take n new) ≡ fieldText sc f
-    told-text = rw e at (w .reading)
+    told-text = text-value w e
 
     pub told-fits : n ≤ 1024
-    told-fits = rw e at (w .fits)
+    told-fits = text-fits w e
 
 -- what was read behind it
 module _ {A : Type 0} (out : List ℕ) {r : FieldText} (next : List ℕ → Reading Cause A) {o : Reading Cause A} (w : andThen (textReading out r) next ≡ o) where

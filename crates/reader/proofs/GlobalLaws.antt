@@ -5,19 +5,15 @@ use mathlib.Core.List.{List, [], _∷_, _++_, append-nil, append-assoc}
 use mathlib.Core.Option.{Option}
 use Prim.Native.Nat.{ℕ, _+_, _≤_, _<_}
 use native.Mathlib.Omega.{arith}
-use lib.ListN.{length, take, drop, getD, drop-of-length-le, length-take}
+use lib.ListN.{length, drop, getD, drop-of-length-le}
 use Rattle.text.specs.Lists.{null}
 use Rattle.text.proofs.Laws.{next-of, clash}
-use Rattle.text.proofs.Buffers.{laid-length}
 use Rattle.fault.specs.Fault.{Reading, fault, value, andThen, needed, readAll}
 use Rattle.fault.specs.declared.Cause.{Cause}
 use Rattle.fault.specs.declared.Cause.the-variants.{OptionName, MissingPart, OptionTwice}
 use Rattle.fault.proofs.Readings.{never, same-value}
 use Rattle.variables.specs.Scope.{Scope}
 use Rattle.variables.specs.Substitute.{fieldText}
-use Rattle.variables.specs.Contract.{Substitutes, upToBad}
-use Rattle.variables.specs.declared.field.FieldText.{FieldText}
-use Rattle.text.specs.declared.quote.Quoting.the-variants.{Outside}
 use Rattle.options.specs.Options.{over}
 use Rattle.options.specs.Arguments.{ArgumentPattern}
 use Rattle.options.specs.Read.{Setting, optionOf, argumentsOf, twice}
@@ -29,7 +25,6 @@ use Rattle.options.proofs.ArgumentLaws.{failures-more}
 use Rattle.reader.specs.Colon.{globalField}
 use Rattle.reader.specs.Contract.{globalRead, Sums, AddsIn, Adds, Reads}
 use Rattle.reader.specs.declared.global.GlobalRead.{GlobalRead}
-use Rattle.variables.specs.declared.field.FieldText.the-variants.{Text, Fault as NoText}
 use Rattle.reader.specs.declared.global.GlobalOutcome.the-variants.{Fault as GlobalFault, Good as GlobalGood}
 
 -- ---- one field more
@@ -77,30 +72,6 @@ module _ {F A B : Type 0} (g : A → Reading F B) where
       go (value y) (fault c) e = never e
       go (value y) (value ys) e = rw (← same-value e)
 
--- ---- a field's text, by what is told of it and its buffer
-module _ {sc : Scope} {f old new : List ℕ} {r : FieldText} (u : Substitutes sc f old new r) where
-  -- the buffer keeps its length
-  pub text-kept : length new ≡ length old
-  text-kept = ap length (u .buffer) ∙ laid-length old 0 (upToBad sc Outside 0 f)
-
-  pub text-bad : {c : Cause} {g : List ℕ} → r ≡ NoText c → f ≡ g → fault c ≡ fieldText sc g
-  text-bad e q = rw (← q) (rw e at (u .reading))
-
-  module _ {n : ℕ} (e : r ≡ Text n) where
-    pub text-good : {g : List ℕ} → f ≡ g → value (take n new) ≡ fieldText sc g
-    text-good q = rw (← q) (rw e at (u .reading))
-
-    fits : n ≤ 1024
-    fits = rw e at (u .fits)
-
-    -- the text lies in the buffer
-    pub text-within : length old ≡ 1024 → n ≤ length new
-    text-within l = omega (arith, text-kept, fits)
-
-    -- it is no longer than a field
-    pub text-short : length (take n new) ≤ 1024
-    text-short = omega (arith, length-take n new, fits)
-
 -- ---- the fields so far
 -- the settings of the fields from one on up to another: what is kept of them, and that the rest's settings behind them are those of all
 pub record SoFar (ps : List ArgumentPattern) (xs : List (List ℕ)) (sc : Scope) (fs : List (List ℕ)) (from i : ℕ) (r : GlobalRead) : Type 0 where
@@ -126,20 +97,20 @@ module _ {ps : List ArgumentPattern} {xs : List (List ℕ)} {sc : Scope} {fs : L
       go (fault c) = refl
       go (value l) = refl
 
-  module _ {i : ℕ} {o : GlobalRead} (w : SoFar ps xs sc fs from i o) (k : i < length fs) where
+  module _ {i : ℕ} {o : GlobalRead} (w : SoFar ps xs sc fs from i o) (k : i < length fs) {f : List ℕ} (g : f ≡ getD fs i []) where
     -- the next field has a fault
     faults : {r : GlobalRead} {c : Cause} → globalField sc (getD fs i []) ≡ fault c → r .outcome ≡ GlobalFault c → Reads ps xs (globalRead sc (drop from fs)) r
     unfolding globalRead
     faults e h = reads-fault (let q = rw (next-of [] fs i k) at (w .rest) in rw (← q, read-fault (globalField sc) (λ l. value (w .settings ++ l)) (getD fs i []) (drop (i + 1) fs) e)) h
 
     -- the next field's text has a fault
-    pub reads-bad : {r : GlobalRead} {c : Cause} → fault c ≡ fieldText sc (getD fs i []) → r .outcome ≡ GlobalFault c → Reads ps xs (globalRead sc (drop from fs)) r
-    reads-bad e h = faults (rw (← e)) h
+    pub reads-bad : {r : GlobalRead} {c : Cause} → fault c ≡ fieldText sc f → r .outcome ≡ GlobalFault c → Reads ps xs (globalRead sc (drop from fs)) r
+    reads-bad e h = faults (rw (← g, ← e)) h
 
     -- what the next field's text adds
-    module _ {t : List ℕ} (e : value t ≡ fieldText sc (getD fs i [])) {r : GlobalRead} (h : Adds ps xs (w .settings) (needed OptionName (optionOf true t) (λ o. o)) r) where
+    module _ {t : List ℕ} (e : value t ≡ fieldText sc f) {r : GlobalRead} (h : Adds ps xs (w .settings) (needed OptionName (optionOf true t) (λ o. o)) r) where
       field-is : globalField sc (getD fs i []) ≡ needed OptionName (optionOf true t) (λ o. o)
-      field-is = rw (← e)
+      field-is = rw (← g, ← e)
 
       -- it is no good option
       pub reads-stopped : {c : Cause} → r .outcome ≡ GlobalFault c → Reads ps xs (globalRead sc (drop from fs)) r

@@ -1,26 +1,17 @@
 -- The word of a line with a colon, by the tests of its text; and what follows a reading.
-use mathlib.Core.Path.{_≡_, refl, sym, ap, _∙_}
+use mathlib.Core.Path.{_≡_, refl}
 use mathlib.Core.Bool.{true, false}
 use mathlib.Core.List.{List}
 use mathlib.Core.Option.{Option}
-use Prim.Native.Nat.{ℕ, _≤_}
-use native.Mathlib.Omega.{arith}
-use lib.ListN.{length, take}
-use lib.Seq.{length-take-le}
+use Prim.Native.Nat.{ℕ}
 use Rattle.text.specs.Bytes.{bytes}
 use Rattle.text.specs.Slice.{same}
-use Rattle.text.specs.declared.quote.Quoting.the-variants.{Outside}
-use Rattle.text.proofs.Buffers.{laid-length}
 use Rattle.fault.specs.Fault.{Reading, fault, value, andThen}
 use Rattle.fault.specs.declared.Cause.{Cause}
 use Rattle.fault.specs.declared.Cause.the-variants.{ColonWord}
 use Rattle.variables.specs.Scope.{Scope}
-use Rattle.variables.specs.Substitute.{fieldText}
-use Rattle.variables.specs.Contract.{Substitutes, upToBad}
-use Rattle.variables.specs.declared.field.FieldText.{FieldText}
 use Rattle.reader.specs.State.{State}
 use Rattle.reader.specs.Colon.{defineLine, globalLine, ifLine, colonWord}
-use Rattle.variables.specs.declared.field.FieldText.the-variants.{Text, Fault as NoText}
 
 -- a reading with a fault is that fault, and one with a value goes on with it
 module _ {F A B : Type 0} {o : Reading F A} (f : A → Reading F B) where
@@ -33,21 +24,6 @@ module _ {F A B : Type 0} {o : Reading F A} (f : A → Reading F B) where
 pub then-assoc : {F A B C : Type 0} (o : Reading F A) (f : A → Reading F B) (g : B → Reading F C) → andThen (andThen o f) g ≡ andThen o (λ a. andThen (f a) g)
 then-assoc (fault c) f g = refl
 then-assoc (value a) f g = refl
-
--- a field's text stands at the beginning of the buffer, or it has a fault
-module _ {sc : Scope} {f old new : List ℕ} {r : FieldText} (w : Substitutes sc f old new r) where
-  pub text-fault : {c : Cause} → r ≡ NoText c → fault c ≡ fieldText sc f
-  text-fault e = (rw e at w) .reading
-
-  module _ {n : ℕ} (e : r ≡ Text n) where
-    pub text-value : value (take n new) ≡ fieldText sc f
-    text-value = (rw e at w) .reading
-
-    pub text-room : length old ≡ 1024 → n ≤ length new
-    text-room h = let l : length new ≡ length old = ap length (w .buffer) ∙ laid-length old 0 (upToBad sc Outside 0 f) in let v = rw e at w in omega (arith, v .fits, l)
-
-    pub text-length : length old ≡ 1024 → n ≡ length (take n new)
-    text-length h = sym (length-take-le n new (text-room h))
 
 -- the line of a colon word, word by word in the order of the tests
 module _ (sc : Scope) (deeper : Option (List (List ℕ) → Reading Cause State)) (s : State) (fs : List (List ℕ)) (w : List ℕ) where

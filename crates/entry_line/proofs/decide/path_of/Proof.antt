@@ -3,8 +3,9 @@ use borrow.Author.Needs.{needs}
 use lib.ListN.{length, drop}
 use Rattle.text.proofs.Buffers.{wrote-as}
 use Rattle.line.specs.Contract.{fieldsIn}
+use Rattle.variables.proofs.TextLaws.{text-fault, text-value, text-length}
 use Rattle.entry.specs.Path.{starred}
-use Rattle.entry_line.proofs.FieldTextLaws.{text-lost, text-told, text-count, texts-told, texts-lost}
+use Rattle.entry_line.proofs.FieldTextLaws.{texts-told, texts-lost}
 use Rattle.entry_line.proofs.decide.path_of.Statement.{statement}
 use Rattle.entry_line.proofs.decide.path_of.Tie as tie
 
@@ -27,10 +28,10 @@ returns : tie.Need-returns
 returns c =
     let a = c .before .before .before .before .before .before .before .before .before .before .before .args in
     let l : length (a .path .now) ≡ 1024 = search needs in
-    (wrote-as (c .put-from .ensures) (ap (λ t. starred (a .command .now) (drop (a .at) t)) (texts-lost _ (fieldsIn (a .text .now) (a .ends .now) (a .count)) (a .index) (c .before .before .before .before .before .before .field .ensures) (text-lost (c .before .before .before .before .field-text .ensures) (c .before .before .enum-told .given .1)))), l)
+    (wrote-as (c .put-from .ensures) (ap (λ t. starred (a .command .now) (drop (a .at) t)) (texts-lost _ (fieldsIn (a .text .now) (a .ends .now) (a .count)) (a .index) (c .before .before .before .before .before .before .field .ensures) (text-fault (c .before .before .before .before .field-text .ensures) (c .before .before .enum-told .given .1)))), l)
 
 slice-aggregate-put-from : tie.Need-slice-aggregate-put-from
-slice-aggregate-put-from c = let l : length (c .before .before .before .before .before .before .field-text .last .1 .1 .1 .1 .1 .1 .0) ≡ 1024 = search needs in text-count (c .before .before .before .before .before .before .field-text .ensures) (c .before .before .before .before .n .given .1) l
+slice-aggregate-put-from c = let l : length (c .before .before .before .before .before .before .field-text .last .1 .1 .1 .1 .1 .1 .0) ≡ 1024 = search needs in text-length (c .before .before .before .before .before .before .field-text .ensures) (c .before .before .before .before .n .given .1) l
 
 put-from-requires-2 : tie.Need-put-from-requires-2
 put-from-requires-2 c κs = search needs
@@ -39,7 +40,7 @@ returns-2 : tie.Need-returns-2
 returns-2 c =
     let a = c .before .before .before .before .before .before .before .before .before .before .before .before .before .before .before .args in
     let l : length (a .path .now) ≡ 1024 = search needs in
-    (wrote-as (c .put-from2 .ensures) (ap (λ t. starred (a .command .now) (drop (a .at) t)) (texts-told _ (fieldsIn (a .text .now) (a .ends .now) (a .count)) (a .index) (c .before .before .before .before .before .before .before .before .before .before .field .ensures) (text-told (c .before .before .before .before .before .before .before .before .field-text .ensures) (c .before .before .before .before .before .before .n .given .1)))), l)
+    (wrote-as (c .put-from2 .ensures) (ap (λ t. starred (a .command .now) (drop (a .at) t)) (texts-told _ (fieldsIn (a .text .now) (a .ends .now) (a .count)) (a .index) (c .before .before .before .before .before .before .before .before .before .before .field .ensures) (text-value (c .before .before .before .before .before .before .before .before .field-text .ensures) (c .before .before .before .before .before .before .n .given .1)))), l)
 
 pub path-of-spec : {M : Type 1} → statement M
 path-of-spec =

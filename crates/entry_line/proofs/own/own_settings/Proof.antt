@@ -9,13 +9,14 @@ use Rattle.fault.specs.Fault.{value}
 use Rattle.line.specs.Contract.{fieldsIn}
 use Rattle.question.specs.Contract.{stringsIn}
 use Rattle.variables.specs.Contract.{scopeIn}
+use Rattle.variables.proofs.TextLaws.{text-fault, text-value, text-length}
 use Rattle.options.specs.Arguments.{ArgumentPattern}
 use Rattle.condition.specs.Condition.{judgeOf}
 use Rattle.entry.specs.Entry.{fieldsFrom}
 use Rattle.entry.specs.Contract.{Sums}
 use Rattle.entry_line.specs.Contract.{textsIn}
 use Rattle.entry_line.proofs.OwnLaws.{Reached, entry-fields, reached-start, reached-lost, reached-on, reached-end}
-use Rattle.entry_line.proofs.FieldTextLaws.{text-lost, text-told, text-count, texts-told}
+use Rattle.entry_line.proofs.FieldTextLaws.{texts-told}
 use Rattle.line.proofs.AccessLaws.{fields-count}
 use Rattle.entry_line.proofs.own.own_settings.Statement.{statement}
 use Rattle.entry.specs.Field.{Entry as Held, first}
@@ -60,16 +61,16 @@ returns c =
     let a = c .before .before .before .before .before .before .before .before .before .before .before .before .before .before .before .args in
     let fs = fieldsIn (a .text .now) (a .ends .now) (a .count) in
     let l : c .before .before .before .before .before .before .loop .i < length fs = omega (arith, fields-count (a .text .now) (a .ends .now) (a .count), c .before .before .before .before .before .before .before .before .before .at-most .ensures .0) in
-    λ ps e f g. reached-lost fs (c .before .before .before .before .before .before .loop .i) l (c .before .before .before .before .field .ensures) (c .before .before .before .before .before .before .loop .inv ps e (c .before .before .before .before .before .before .before .before .new .ensures ps _ f) (entry-fields _ _ _ g)) (text-lost (c .before .before .field-text .ensures) (c .enum-told .given .1))
+    λ ps e f g. reached-lost fs (c .before .before .before .before .before .before .loop .i) l (c .before .before .before .before .field .ensures) (c .before .before .before .before .before .before .loop .inv ps e (c .before .before .before .before .before .before .before .before .new .ensures ps _ f) (entry-fields _ _ _ g)) (text-fault (c .before .before .field-text .ensures) (c .enum-told .given .1))
 
 slice-aggregate-with-text : tie.Need-slice-aggregate-with-text Inv-loop μ-loop
-slice-aggregate-with-text c = let l : length (c .before .before .before .before .before .before .field-text .last .1 .1 .1 .1 .1 .1 .0) ≡ 1024 = search needs in text-count (c .before .before .before .before .before .before .field-text .ensures) (c .before .before .before .before .n .given .1) l
+slice-aggregate-with-text c = let l : length (c .before .before .before .before .before .before .field-text .last .1 .1 .1 .1 .1 .1 .0) ≡ 1024 = search needs in text-length (c .before .before .before .before .before .before .field-text .ensures) (c .before .before .before .before .n .given .1) l
 
 with-text-requires : tie.Need-with-text-requires Inv-loop μ-loop
 with-text-requires c κs = search needs
 
 slice-aggregate-add : tie.Need-slice-aggregate-add Inv-loop μ-loop
-slice-aggregate-add c = let l : length (c .before .before .before .before .before .before .before .before .field-text .last .1 .1 .1 .1 .1 .1 .0) ≡ 1024 = search needs in text-count (c .before .before .before .before .before .before .before .before .field-text .ensures) (c .before .before .before .before .before .before .n .given .1) l
+slice-aggregate-add c = let l : length (c .before .before .before .before .before .before .before .before .field-text .last .1 .1 .1 .1 .1 .1 .0) ≡ 1024 = search needs in text-length (c .before .before .before .before .before .before .before .before .field-text .ensures) (c .before .before .before .before .before .before .n .given .1) l
 
 slice-aggregate-add-2 : tie.Need-slice-aggregate-add-2 Inv-loop μ-loop
 slice-aggregate-add-2 c = omega arith
@@ -90,7 +91,7 @@ loop-again c =
     let l : c .before .before .before .before .before .before .before .before .before .before .before .before .before .before .before .loop .i < length fs = omega (arith, fields-count (a .text .now) (a .ends .now) (a .count), c .before .before .before .before .before .before .before .before .before .before .before .before .before .before .before .before .before .before .at-most .ensures .0, c .before .before .before .before .before .before .before .before .before .before .before .before .before .before .loop-test .taken) in
     let s = c .before .before .before .before .before .before .before .before .before .before .before .field-text .ensures in
     let q = c .before .before .before .before .before .before .before .before .before .n .given .1 in
-    λ ps e d g. reached-on fs (c .before .before .before .before .before .before .before .before .before .before .before .before .before .before .before .loop .i) l (c .before .before .before .before .before .before .before .before .before .before .before .before .before .field .ensures) (c .before .before .before .before .before .before .before .before .before .before .before .before .before .before .before .loop .inv ps e d g) s q (texts-told _ fs (c .before .before .before .before .before .before .before .before .before .before .before .before .before .before .before .loop .i) (c .before .before .before .before .before .before .before .before .before .before .before .before .before .field .ensures) (text-told s q)) (c .before .add .ensures) (c .before .before .before .before .with-text .ensures)
+    λ ps e d g. reached-on fs (c .before .before .before .before .before .before .before .before .before .before .before .before .before .before .before .loop .i) l (c .before .before .before .before .before .before .before .before .before .before .before .before .before .field .ensures) (c .before .before .before .before .before .before .before .before .before .before .before .before .before .before .before .loop .inv ps e d g) s q (texts-told _ fs (c .before .before .before .before .before .before .before .before .before .before .before .before .before .before .before .loop .i) (c .before .before .before .before .before .before .before .before .before .before .before .before .before .field .ensures) (text-value s q)) (c .before .add .ensures) (c .before .before .before .before .with-text .ensures)
 
 returns-2 : tie.Need-returns-2 Inv-loop μ-loop
 returns-2 c =

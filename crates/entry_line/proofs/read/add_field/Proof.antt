@@ -1,6 +1,7 @@
 use mathlib.Core.Path.{sym, _∙_}
 use borrow.Author.Needs.{needs}
-use Rattle.entry_line.proofs.ReadLaws.{text-fits, verbatim-added, text-added, text-refused}
+use Rattle.variables.proofs.TextLaws.{text-length}
+use Rattle.entry_line.proofs.ReadLaws.{verbatim-added, text-added, text-refused}
 use Rattle.entry_line.proofs.read.add_field.Statement.{statement}
 use Rattle.entry_line.proofs.read.add_field.Tie as tie
 
@@ -23,7 +24,7 @@ enum-known-n : tie.Need-enum-known-n
 enum-known-n c = search needs
 
 slice-aggregate-add : tie.Need-slice-aggregate-add
-slice-aggregate-add c = text-fits (c .before .before .before .before .n .given .1) (c .before .before .before .before .before .before .field-text .ensures) (c .before .all2 .given .0)
+slice-aggregate-add c = text-length (c .before .before .before .before .before .before .field-text .ensures) (c .before .before .before .before .n .given .1) (c .before .all2 .given .0)
 
 add-requires-2 : tie.Need-add-requires-2
 add-requires-2 c κs = search needs

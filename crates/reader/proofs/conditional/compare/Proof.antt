@@ -2,7 +2,7 @@ use native.Mathlib.Omega.{arith}
 use borrow.Author.Needs.{needs}
 use Rattle.line.specs.Contract.{fieldsIn}
 use Rattle.line.proofs.AccessLaws.{fields-count}
-use Rattle.reader.proofs.WordLaws.{text-fault, text-value, text-room, text-length}
+use Rattle.variables.proofs.TextLaws.{text-kept, text-fault, text-value, text-room, text-length}
 use Rattle.reader.proofs.ConditionalLaws.{left-missing, left-fault, left-there}
 use Rattle.reader.proofs.conditional.compare.Statement.{statement}
 use Rattle.reader.proofs.conditional.compare.Tie as tie
@@ -29,7 +29,7 @@ array-share-prefix-scratch : tie.Need-array-share-prefix-scratch
 array-share-prefix-scratch c = text-room (c .before .before .before .field-text .ensures) (c .before .n .given .1) (omega arith)
 
 slice-aggregate-compare-with : tie.Need-slice-aggregate-compare-with
-slice-aggregate-compare-with c = text-length (c .before .before .before .before .field-text .ensures) (c .before .before .n .given .1) (omega arith)
+slice-aggregate-compare-with c = let u = c .before .before .before .before .field-text .ensures in text-length u (c .before .before .n .given .1) (omega (arith, text-kept u))
 
 add-compare-with : tie.Need-add-compare-with
 add-compare-with c = search needs

@@ -2,7 +2,7 @@ use native.Mathlib.Omega.{arith}
 use borrow.Author.Needs.{needs}
 use Rattle.line.specs.Contract.{fieldsIn}
 use Rattle.line.proofs.AccessLaws.{fields-count}
-use Rattle.reader.proofs.WordLaws.{text-fault, text-value, text-room, text-length}
+use Rattle.variables.proofs.TextLaws.{text-kept, text-fault, text-value, text-room, text-length}
 use Rattle.reader.proofs.ConditionalLaws.{right-missing, right-fault, rest-missing, rest-there}
 use Rattle.reader.proofs.conditional.compare_right.Statement.{statement}
 use Rattle.reader.proofs.conditional.compare_right.Tie as tie
@@ -35,7 +35,7 @@ array-share-prefix-scratch : tie.Need-array-share-prefix-scratch
 array-share-prefix-scratch c = text-room (c .before .before .before .before .field-text .ensures) (c .before .before .n .given .1) (omega arith)
 
 slice-aggregate-compared : tie.Need-slice-aggregate-compared
-slice-aggregate-compared c = text-length (c .before .before .before .before .before .field-text .ensures) (c .before .before .before .n .given .1) (omega arith)
+slice-aggregate-compared c = let u = c .before .before .before .before .before .field-text .ensures in text-length u (c .before .before .before .n .given .1) (omega (arith, text-kept u))
 
 compared-requires : tie.Need-compared-requires
 compared-requires c κs = search needs

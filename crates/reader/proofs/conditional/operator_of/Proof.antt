@@ -1,7 +1,8 @@
 use native.Mathlib.Omega.{arith}
 use borrow.Author.Needs.{needs}
 use Rattle.reader.specs.Colon.{operatorOf}
-use Rattle.reader.proofs.WordLaws.{then-fault, then-value, text-fault, text-value, text-room, text-length}
+use Rattle.variables.proofs.TextLaws.{text-kept, text-fault, text-value, text-room, text-length}
+use Rattle.reader.proofs.WordLaws.{then-fault, then-value}
 use Rattle.reader.proofs.conditional.operator_of.Statement.{statement}
 use Rattle.reader.proofs.conditional.operator_of.Tie as tie
 
@@ -18,7 +19,7 @@ array-share-prefix-scratch : tie.Need-array-share-prefix-scratch
 array-share-prefix-scratch c = text-room (c .before .before .before .field-text .ensures) (c .before .n .given .1) (omega arith)
 
 slice-aggregate-operator-in : tie.Need-slice-aggregate-operator-in
-slice-aggregate-operator-in c = text-length (c .before .before .before .before .field-text .ensures) (c .before .before .n .given .1) (omega arith)
+slice-aggregate-operator-in c = let u = c .before .before .before .before .field-text .ensures in text-length u (c .before .before .n .given .1) (omega (arith, text-kept u))
 
 operator-in-requires : tie.Need-operator-in-requires
 operator-in-requires c κs = search needs

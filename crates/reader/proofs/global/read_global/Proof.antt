@@ -1,17 +1,17 @@
-use mathlib.Core.Path.{_≡_, sym, _∙_}
+use mathlib.Core.Path.{_≡_, _∙_}
 use mathlib.Core.List.{List, []}
 use Prim.Native.Nat.{_-_}
 use native.Mathlib.Omega.{arith}
 use borrow.Author.Needs.{needs}
 use lib.ListN.{length}
-use lib.Seq.{length-take-le}
 use Rattle.line.specs.Contract.{fieldsIn}
 use Rattle.line.proofs.AccessLaws.{fields-count}
 use Rattle.question.specs.Contract.{stringsIn}
 use Rattle.variables.specs.Contract.{scopeIn}
+use Rattle.variables.proofs.TextLaws.{text-kept, text-fault, text-value, text-room, text-short, text-length}
 use Rattle.options.specs.Arguments.{ArgumentPattern}
 use Rattle.reader.specs.Contract.{Sums}
-use Rattle.reader.proofs.GlobalLaws.{text-kept, text-bad, text-good, text-within, text-short, SoFar, so-far-none, so-far-more, reads-none, reads-bad, reads-stopped, reads-twice, reads-all}
+use Rattle.reader.proofs.GlobalLaws.{SoFar, so-far-none, so-far-more, reads-none, reads-bad, reads-stopped, reads-twice, reads-all}
 use Rattle.reader.proofs.global.read_global.Statement.{statement}
 use Rattle.reader.proofs.global.read_global.Tie as tie
 
@@ -51,16 +51,16 @@ with-fault-requires-2 : tie.Need-with-fault-requires-2 Inv-loop μ-loop
 with-fault-requires-2 c κs = search needs
 
 returns-2 : tie.Need-returns-2 Inv-loop μ-loop
-returns-2 c = λ ps h. reads-bad (c .before .before .before .before .before .before .before .before .loop .inv .1 ps (c .before .before .before .before .before .before .before .before .before .before .new .ensures ps _ h)) (omega (arith, c .before .before .before .before .before .before .before .before .before .before .before .at-most .ensures, fields-count (c .before .before .before .before .before .before .before .before .before .before .before .before .before .before .before .before .args .text .now) (c .before .before .before .before .before .before .before .before .before .before .before .before .before .before .before .before .args .ends .now) (c .before .before .before .before .before .before .before .before .before .before .before .before .before .before .before .before .args .count))) (text-bad (c .before .before .before .before .field-text .ensures) (c .before .before .cause .given .1) (c .before .before .before .before .before .before .field .ensures)) (c .with-fault2 .ensures)
+returns-2 c = λ ps h. reads-bad (c .before .before .before .before .before .before .before .before .loop .inv .1 ps (c .before .before .before .before .before .before .before .before .before .before .new .ensures ps _ h)) (omega (arith, c .before .before .before .before .before .before .before .before .before .before .before .at-most .ensures, fields-count (c .before .before .before .before .before .before .before .before .before .before .before .before .before .before .before .before .args .text .now) (c .before .before .before .before .before .before .before .before .before .before .before .before .before .before .before .before .args .ends .now) (c .before .before .before .before .before .before .before .before .before .before .before .before .before .before .before .before .args .count))) (c .before .before .before .before .before .before .field .ensures) (text-fault (c .before .before .before .before .field-text .ensures) (c .before .before .cause .given .1)) (c .with-fault2 .ensures)
 
 enum-known-n : tie.Need-enum-known-n Inv-loop μ-loop
 enum-known-n c = search needs
 
 array-share-prefix-scratch : tie.Need-array-share-prefix-scratch Inv-loop μ-loop
-array-share-prefix-scratch c = text-within (c .before .before .before .field-text .ensures) (c .before .n .given .1) (c .before .before .before .before .before .before .before .loop .inv .0)
+array-share-prefix-scratch c = text-room (c .before .before .before .field-text .ensures) (c .before .n .given .1) (c .before .before .before .before .before .before .before .loop .inv .0)
 
 slice-aggregate-add : tie.Need-slice-aggregate-add Inv-loop μ-loop
-slice-aggregate-add c = sym (length-take-le _ _ (text-within (c .before .before .before .before .field-text .ensures) (c .before .before .n .given .1) (c .before .before .before .before .before .before .before .before .loop .inv .0)))
+slice-aggregate-add c = let u = c .before .before .before .before .field-text .ensures in text-length u (c .before .before .n .given .1) (text-kept u ∙ c .before .before .before .before .before .before .before .before .loop .inv .0)
 
 add-requires : tie.Need-add-requires Inv-loop μ-loop
 add-requires c κs = search needs
@@ -69,7 +69,7 @@ enum-told : tie.Need-enum-told Inv-loop μ-loop
 enum-told c = search needs
 
 returns-3 : tie.Need-returns-3 Inv-loop μ-loop
-returns-3 c = λ ps h. let u = c .before .before .before .before .before .before .before .field-text .ensures in let w = c .before .before .before .before .before .before .before .before .before .before .before .loop .inv .1 ps (c .before .before .before .before .before .before .before .before .before .before .before .before .before .new .ensures ps _ h) in reads-stopped w (omega (arith, c .before .before .before .before .before .before .before .before .before .before .before .before .before .before .at-most .ensures, fields-count (c .before .before .before .before .before .before .before .before .before .before .before .before .before .before .before .before .before .before .before .args .text .now) (c .before .before .before .before .before .before .before .before .before .before .before .before .before .before .before .before .before .before .before .args .ends .now) (c .before .before .before .before .before .before .before .before .before .before .before .before .before .before .before .before .before .before .before .args .count))) (text-good u (c .before .before .before .before .before .n .given .1) (c .before .before .before .before .before .before .before .before .before .field .ensures)) (c .before .before .add .ensures ps (w .settings) (text-short u (c .before .before .before .before .before .n .given .1)) (w .sums)) (c .enum-told .given .1)
+returns-3 c = λ ps h. let u = c .before .before .before .before .before .before .before .field-text .ensures in let w = c .before .before .before .before .before .before .before .before .before .before .before .loop .inv .1 ps (c .before .before .before .before .before .before .before .before .before .before .before .before .before .new .ensures ps _ h) in reads-stopped w (omega (arith, c .before .before .before .before .before .before .before .before .before .before .before .before .before .before .at-most .ensures, fields-count (c .before .before .before .before .before .before .before .before .before .before .before .before .before .before .before .before .before .before .before .args .text .now) (c .before .before .before .before .before .before .before .before .before .before .before .before .before .before .before .before .before .before .before .args .ends .now) (c .before .before .before .before .before .before .before .before .before .before .before .before .before .before .before .before .before .before .before .args .count))) (c .before .before .before .before .before .before .before .before .before .field .ensures) (text-value u (c .before .before .before .before .before .n .given .1)) (c .before .before .add .ensures ps (w .settings) (text-short u (c .before .before .before .before .before .n .given .1)) (w .sums)) (c .enum-told .given .1)
 
 enum-told-2 : tie.Need-enum-told-2 Inv-loop μ-loop
 enum-told-2 c = search needs
@@ -81,7 +81,7 @@ loop-less : tie.Need-loop-less Inv-loop μ-loop
 loop-less c = omega arith
 
 loop-again : tie.Need-loop-again Inv-loop μ-loop
-loop-again c = let u = c .before .before .before .before .before .before .before .field-text .ensures in (text-kept u ∙ c .before .before .before .before .before .before .before .before .before .before .before .loop .inv .0, λ ps h. let w = c .before .before .before .before .before .before .before .before .before .before .before .loop .inv .1 ps h in so-far-more w (omega (arith, c .before .before .before .before .before .before .before .before .before .before .before .before .before .before .at-most .ensures, fields-count (c .before .before .before .before .before .before .before .before .before .before .before .before .before .before .before .before .before .before .before .args .text .now) (c .before .before .before .before .before .before .before .before .before .before .before .before .before .before .before .before .before .before .before .args .ends .now) (c .before .before .before .before .before .before .before .before .before .before .before .before .before .before .before .before .before .before .before .args .count))) (text-good u (c .before .before .before .before .before .n .given .1) (c .before .before .before .before .before .before .before .before .before .field .ensures)) (c .before .before .add .ensures ps (w .settings) (text-short u (c .before .before .before .before .before .n .given .1)) (w .sums)) (c .enum-told2 .given .1))
+loop-again c = let u = c .before .before .before .before .before .before .before .field-text .ensures in (text-kept u ∙ c .before .before .before .before .before .before .before .before .before .before .before .loop .inv .0, λ ps h. let w = c .before .before .before .before .before .before .before .before .before .before .before .loop .inv .1 ps h in so-far-more w (omega (arith, c .before .before .before .before .before .before .before .before .before .before .before .before .before .before .at-most .ensures, fields-count (c .before .before .before .before .before .before .before .before .before .before .before .before .before .before .before .before .before .before .before .args .text .now) (c .before .before .before .before .before .before .before .before .before .before .before .before .before .before .before .before .before .before .before .args .ends .now) (c .before .before .before .before .before .before .before .before .before .before .before .before .before .before .before .before .before .before .before .args .count))) (c .before .before .before .before .before .before .before .before .before .field .ensures) (text-value u (c .before .before .before .before .before .n .given .1)) (c .before .before .add .ensures ps (w .settings) (text-short u (c .before .before .before .before .before .n .given .1)) (w .sums)) (c .enum-told2 .given .1))
 
 twice-requires : tie.Need-twice-requires Inv-loop μ-loop
 twice-requires c κs = search needs

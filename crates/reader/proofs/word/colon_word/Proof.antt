@@ -1,6 +1,7 @@
 use native.Mathlib.Omega.{arith}
 use borrow.Author.Needs.{needs}
-use Rattle.reader.proofs.WordLaws.{then-fault, then-value, text-fault, text-value, text-room, text-length}
+use Rattle.variables.proofs.TextLaws.{text-kept, text-fault, text-value, text-room, text-length}
+use Rattle.reader.proofs.WordLaws.{then-fault, then-value}
 use Rattle.reader.proofs.word.colon_word.Statement.{statement}
 use Rattle.reader.proofs.word.colon_word.Tie as tie
 
@@ -17,7 +18,7 @@ array-share-prefix-scratch : tie.Need-array-share-prefix-scratch
 array-share-prefix-scratch c = text-room (c .before .before .before .field-text .ensures) (c .before .n .given .1) (omega arith)
 
 slice-aggregate-word-in : tie.Need-slice-aggregate-word-in
-slice-aggregate-word-in c = text-length (c .before .before .before .before .field-text .ensures) (c .before .before .n .given .1) (omega arith)
+slice-aggregate-word-in c = let u = c .before .before .before .before .field-text .ensures in text-length u (c .before .before .n .given .1) (omega (arith, text-kept u))
 
 word-in-requires : tie.Need-word-in-requires
 word-in-requires c κs = search needs
