@@ -17,6 +17,9 @@ use Rattle.line.specs.Kind.{kindOfLine}
 use Rattle.line.specs.Contract.{linesFrom, LineEnds}
 use Rattle.line.proofs.ScanLaws.{scanned-empty}
 use Rattle.line.proofs.StepLaws.{lineAt, outcomeFrom, from-start, from-end, from-cut, from-fault, from-on}
+use Rattle.variables.specs.Scope.{Definition, define}
+use Rattle.variables.specs.Contract.{definitionsOf}
+use Rattle.variables.specs.declared.Variables.{Variables}
 use Rattle.options.specs.Contract.{optionsIn}
 use Rattle.entry.specs.Field.{Entry}
 use Rattle.entry.specs.Entry.{conditionsAccept}
@@ -25,12 +28,12 @@ use Rattle.entry.specs.Verdict.{verdictIf, verdictOf}
 use Rattle.entry.specs.Contract.{given, verdictIn}
 use Rattle.entry_line.specs.Contract.{acceptsIf, Acts}
 use Rattle.reader.specs.State.{State, decidedAt, start, scopeOf, withDefinition, withSettings, withEntry}
-use Rattle.reader.specs.Colon.{defineLine, globalLine}
+use Rattle.reader.specs.Colon.{globalLine}
 use Rattle.reader.specs.Read.{fieldsRead, lineRead}
 use Rattle.reader.specs.Contract.{Keeps, Changes}
 use Rattle.reader.specs.declared.state.Reader.{Reader}
 use Rattle.reader.specs.declared.state.Changed.{Changed}
-use Rattle.reader.proofs.ReadLaws.{define-change, global-change}
+use Rattle.reader.proofs.ReadLaws.{global-change}
 use Rattle.answer.specs.declared.Granted.{Granted}
 use Rattle.answer.specs.Answer.{result}
 use Rattle.answer.specs.Meaning.{strings, grantedBy, settled, linesGive}
@@ -79,18 +82,19 @@ no-verdict q s e = go (pathFor (q .command) (e .pairs))
 
 -- ---- the lines so far
 module _ (q : Question) (t : List ℕ) where
-  -- what is kept at a place, behind the lines so far: the state, the decision, and that the rest of the lines gives what the whole table gives
-  pub record SoFar (r : Reader) (d : Kept) (path : List ℕ) (at number : ℕ) : Type 0 where
+  -- what is kept at a place, behind the lines so far: the variables and the rest of the state, the decision, and that the rest of the lines gives what the whole table gives
+  pub record SoFar (v : Variables) (r : Reader) (d : Kept) (path : List ℕ) (at number : ℕ) : Type 0 where
     pub state : State
+    pub variables : state .definitions ≡ definitionsOf v
     pub keeps : Keeps (q .args) r state
     pub decided : decidedIn d path ≡ state .decision
     pub rest : outcomeFrom (lineRead q) (λ s. s .decision) t at number state ≡ linesGive q t
 
-  pub so-start : {r : Reader} {d : Kept} {path : List ℕ} → Keeps (q .args) r start → d .made ≡ false → SoFar r d path 0 1
+  pub so-start : {v : Variables} {r : Reader} {d : Kept} {path : List ℕ} → definitionsOf v ≡ [] → Keeps (q .args) r start → d .made ≡ false → SoFar v r d path 0 1
   unfolding start
-  so-start k m = record { state = start; keeps = k; decided = rw m; rest = from-start (lineRead q) (λ s. s .decision) t start }
+  so-start e k m = record { state = start; variables = sym e; keeps = k; decided = rw m; rest = from-start (lineRead q) (λ s. s .decision) t start }
 
-  module _ {r : Reader} {d : Kept} {path : List ℕ} {at number : ℕ} (f : SoFar r d path at number) where
+  module _ {v : Variables} {r : Reader} {d : Kept} {path : List ℕ} {at number : ℕ} (f : SoFar v r d path at number) where
     -- no line is left
     pub so-end : length t ≤ at → linesGive q t ≡ value (decidedIn d path)
     so-end h = sym (f .rest) ∙ from-end (lineRead q) (λ s. s .decision) t at number (f .state) h ∙ ap value (sym (f .decided))
@@ -101,7 +105,7 @@ module _ (q : Question) (t : List ℕ) where
 
     enters : (x : Entry) → Keeps (q .args) r (withEntry q number x (f .state))
     unfolding withEntry
-    enters x = record { variables = f .keeps .variables; within = f .keeps .within; options = f .keeps .options; failures = f .keeps .failures; shell = f .keeps .shell }
+    enters x = record { options = f .keeps .options; failures = f .keeps .failures; shell = f .keeps .shell }
 
     module _ {e count : ℕ} (l : LineEnds t at e count) where
       abbrev bytes : List ℕ
@@ -110,8 +114,8 @@ module _ (q : Question) (t : List ℕ) where
       stopped : {c : Cause} → lineRead q (f .state) (lineAt t at e number) ≡ fault c → linesGive q t ≡ fault (faulty c at)
       stopped g = sym (f .rest) ∙ from-fault (lineRead q) (λ s. s .decision) t at number (f .state) l g
 
-      onward : {s : State} {r′ : Reader} {d′ : Kept} {path′ : List ℕ} → lineRead q (f .state) (lineAt t at e number) ≡ value s → Keeps (q .args) r′ s → decidedIn d′ path′ ≡ s .decision → SoFar r′ d′ path′ e (number + count)
-      onward {s} g k m = record { state = s; keeps = k; decided = m; rest = sym (from-on (lineRead q) (λ x. x .decision) t at number (f .state) l g) ∙ f .rest }
+      onward : {s : State} {v′ : Variables} {r′ : Reader} {d′ : Kept} {path′ : List ℕ} → lineRead q (f .state) (lineAt t at e number) ≡ value s → s .definitions ≡ definitionsOf v′ → Keeps (q .args) r′ s → decidedIn d′ path′ ≡ s .decision → SoFar v′ r′ d′ path′ e (number + count)
+      onward {s} g x k m = record { state = s; variables = x; keeps = k; decided = m; rest = sym (from-on (lineRead q) (λ y. y .decision) t at number (f .state) l g) ∙ f .rest }
 
       -- the line itself has a fault
       pub so-scanned : {c : Cause} → scanned bytes ≡ fault c → linesGive q t ≡ fault (faulty c at)
@@ -119,11 +123,11 @@ module _ (q : Question) (t : List ℕ) where
       so-scanned g = stopped (rw g)
 
       -- an empty line
-      pub so-empty : e ≤ at + 1 → SoFar r d path e (number + count)
+      pub so-empty : e ≤ at + 1 → SoFar v r d path e (number + count)
       unfolding lineRead fieldsRead kindOfLine
       so-empty h =
           let z : e - 1 - at ≡ 0 = omega arith in
-          onward (rw (z, scanned-empty)) (f .keeps) (f .decided)
+          onward (rw (z, scanned-empty)) (f .variables) (f .keeps) (f .decided)
 
       module _ {fs : List (List ℕ)} (g : scanned bytes ≡ value fs) where
         -- its fields have a fault
@@ -132,27 +136,24 @@ module _ (q : Question) (t : List ℕ) where
         so-refused h = stopped (rw (g, h))
 
         -- its fields make another state
-        so-read : {s : State} {r′ : Reader} {d′ : Kept} {path′ : List ℕ} → fieldsRead 4 q number (f .state) fs ≡ value s → Keeps (q .args) r′ s → decidedIn d′ path′ ≡ s .decision → SoFar r′ d′ path′ e (number + count)
+        so-read : {s : State} {v′ : Variables} {r′ : Reader} {d′ : Kept} {path′ : List ℕ} → fieldsRead 4 q number (f .state) fs ≡ value s → s .definitions ≡ definitionsOf v′ → Keeps (q .args) r′ s → decidedIn d′ path′ ≡ s .decision → SoFar v′ r′ d′ path′ e (number + count)
         unfolding lineRead
-        so-read h k m = onward (rw (g, h)) k m
+        so-read h x k m = onward (rw (g, h)) x k m
 
-        pub so-nothing : fieldsRead 4 q number (f .state) fs ≡ value (f .state) → SoFar r d path e (number + count)
-        so-nothing h = so-read h (f .keeps) (f .decided)
+        pub so-nothing : fieldsRead 4 q number (f .state) fs ≡ value (f .state) → SoFar v r d path e (number + count)
+        so-nothing h = so-read h (f .variables) (f .keeps) (f .decided)
 
         -- a `:define` or a `:global` changes no decision
-        pub so-defined : {r′ : Changed} (i : ℕ) → fieldsRead 4 q number (f .state) fs ≡ defineLine (scopeOf q (f .state)) (f .state) (drop i fs) → Changes (q .args) (defineLine (scopeOf q (f .state)) (f .state) (drop i fs)) r′ → r′ .outcome ≡ LineGood → SoFar (r′ .reader) d path e (number + count)
+        pub so-defined : {v′ : Variables} (x : Definition) → fieldsRead 4 q number (f .state) fs ≡ value (withDefinition x (f .state)) → define x (f .state .definitions) ≡ definitionsOf v′ → SoFar v′ r d path e (number + count)
         unfolding withDefinition
-        so-defined i h k o =
-            let x = changed-good (q .args) _ k o in
-            let y = define-change (scopeOf q (f .state)) (f .state) (x .0) (drop i fs) (x .1) in
-            so-read (h ∙ x .1) (x .2) (f .decided ∙ ap (λ u. u .decision) (y .1))
+        so-defined x h m = so-read h m (record { options = f .keeps .options; failures = f .keeps .failures; shell = f .keeps .shell }) (f .decided)
 
-        pub so-set : {r′ : Changed} (i : ℕ) → fieldsRead 4 q number (f .state) fs ≡ globalLine (scopeOf q (f .state)) (f .state) (drop i fs) → Changes (q .args) (globalLine (scopeOf q (f .state)) (f .state) (drop i fs)) r′ → r′ .outcome ≡ LineGood → SoFar (r′ .reader) d path e (number + count)
+        pub so-set : {r′ : Changed} (i : ℕ) → fieldsRead 4 q number (f .state) fs ≡ globalLine (scopeOf q (f .state)) (f .state) (drop i fs) → Changes (q .args) (globalLine (scopeOf q (f .state)) (f .state) (drop i fs)) r′ → r′ .outcome ≡ LineGood → SoFar v (r′ .reader) d path e (number + count)
         unfolding withSettings
         so-set i h k o =
             let x = changed-good (q .args) _ k o in
             let y = global-change (scopeOf q (f .state)) (f .state) (x .0) (drop i fs) (x .1) in
-            so-read (h ∙ x .1) (x .2) (f .decided ∙ ap (λ u. u .decision) (y .2))
+            so-read (h ∙ x .1) (sym (ap (λ u. u .definitions) (y .2)) ∙ f .variables) (x .2) (f .decided ∙ ap (λ u. u .decision) (y .2))
 
         -- an entry
         module _ {o : Reading Cause Entry} (h : fieldsRead 4 q number (f .state) fs ≡ andThen o (λ x. value (withEntry q number x (f .state)))) where
@@ -163,18 +164,18 @@ module _ (q : Question) (t : List ℕ) where
           so-entry-fault g = so-refused (h ∙ rw g)
 
           -- it does not accept, or the decision is made
-          pub so-passed : {x : Entry} → o ≡ value x → acceptsIf (not (d .made)) (q .command) (q .user) x ≡ false → SoFar r d path e (number + count)
+          pub so-passed : {x : Entry} → o ≡ value x → acceptsIf (not (d .made)) (q .command) (q .user) x ≡ false → SoFar v r d path e (number + count)
           unfolding withEntry orElse
-          so-passed {x} g a = so-read (entered g) (enters x) (go (d .made) refl a)
+          so-passed {x} g a = so-read (entered g) (f .variables) (enters x) (go (d .made) refl a)
             where
               go : (b : Bool) → d .made ≡ b → acceptsIf (not b) (q .command) (q .user) x ≡ false → decidedIn d path ≡ orElse (f .state .decision) (Option·map (decidedAt number) (verdictOf q (f .state .options) (f .state .arguments) x))
               go true m z = rw (← f .decided, m)
               go false m z = rw (← f .decided, m, no-verdict q (f .state) x z)
 
           -- it decides
-          pub so-decided : {d′ : Kept} {path′ : List ℕ} {x : Entry} → o ≡ value x → acceptsIf (not (d .made)) (q .command) (q .user) x ≡ true → d′ .made ≡ true → d′ .line ≡ number → verdictOf q (f .state .options) (f .state .arguments) x ≡ some (verdictIn (take (d′ .path) path′) (optionsIn (d′ .options)) (d′ .verdict)) → SoFar r d′ path′ e (number + count)
+          pub so-decided : {d′ : Kept} {path′ : List ℕ} {x : Entry} → o ≡ value x → acceptsIf (not (d .made)) (q .command) (q .user) x ≡ true → d′ .made ≡ true → d′ .line ≡ number → verdictOf q (f .state .options) (f .state .arguments) x ≡ some (verdictIn (take (d′ .path) path′) (optionsIn (d′ .options)) (d′ .verdict)) → SoFar v r d′ path′ e (number + count)
           unfolding withEntry orElse
-          so-decided {d′} {path′} {x} g a m n v = so-read (entered g) (enters x) (go (d .made) refl a)
+          so-decided {d′} {path′} {x} g a m n v = so-read (entered g) (f .variables) (enters x) (go (d .made) refl a)
             where
               go : (b : Bool) → d .made ≡ b → acceptsIf (not b) (q .command) (q .user) x ≡ true → decidedIn d′ path′ ≡ orElse (f .state .decision) (Option·map (decidedAt number) (verdictOf q (f .state .options) (f .state .arguments) x))
               go true w z = clash cc

@@ -15,9 +15,12 @@ use question::LastAuthentication;
 use question::WeekMinute;
 use reader::control_line::Action;
 use reader::control_line::control_line;
+use reader::define::DefineRead;
+use reader::define::read_define;
 use reader::state::LineOutcome;
 use reader::state::Reader;
 use text::number::at_most;
+use variables::Variables;
 use variables::field::FieldText;
 ghost use Prim.Native.Nat.{_≤_};
 ghost use mathlib.Core.Path.{_≡_};
@@ -74,6 +77,7 @@ pub fn read_table(
     requires { ⌜ (2048 ≤ length (now buffer)) × (length (now table) ≤ 32768) ⌝ }
     ensures { λ r. ⌜ ((q : Question) → AskedWith q (now (command .entry)) (now (user .entry)) (now (groups .entry)) (now (host .entry)) minute last (now (args .entry)) → result r (now (buffer .exit)) ≡ settled (now (buffer .entry)) (linesGive q (now (table .entry)))) ⌝ }
 {
+    let mut variables = Variables::new();
     let mut reader = Reader::new();
     let mut decision = Decision {
         made: false,
@@ -114,9 +118,9 @@ pub fn read_table(
             reader.shell,
             user,
             host,
-            &reader.variables.bytes,
-            &reader.variables.sizes,
-            reader.variables.count,
+            &variables.bytes,
+            &variables.sizes,
+            variables.count,
         ) {
             Action::Fault(cause) => {
                 return Answer::RefusedLine(cause, begin);
@@ -125,17 +129,43 @@ pub fn read_table(
                 continue;
             }
             Action::Define(from) => {
-                let changed = reader.define(&text, &ends, count, from, user, host);
-                let outcome = changed.outcome;
-                if let LineOutcome::Fault(cause) = outcome {
-                    return Answer::RefusedLine(cause, begin);
+                let mut name = [0u8; FieldText::BYTES];
+                let mut value = [0u8; FieldText::BYTES];
+                match read_define(
+                    &text,
+                    &ends,
+                    count,
+                    from,
+                    user,
+                    host,
+                    &variables.bytes,
+                    &variables.sizes,
+                    variables.count,
+                    &mut name,
+                    &mut value,
+                ) {
+                    DefineRead::Fault(cause) => {
+                        return Answer::RefusedLine(cause, begin);
+                    }
+                    DefineRead::At(place, names, k, n) => {
+                        variables = variables.define(place, names, &name[..k], &value[..n]);
+                        continue;
+                    }
                 }
-                let next = changed.reader;
-                reader = next;
-                continue;
             }
             Action::Global(from) => {
-                let changed = reader.global(&text, &ends, count, from, user, host, args);
+                let changed = reader.global(
+                    &text,
+                    &ends,
+                    count,
+                    from,
+                    user,
+                    host,
+                    args,
+                    &variables.bytes,
+                    &variables.sizes,
+                    variables.count,
+                );
                 let outcome = changed.outcome;
                 if let LineOutcome::Fault(cause) = outcome {
                     return Answer::RefusedLine(cause, begin);
@@ -156,9 +186,9 @@ pub fn read_table(
                     groups,
                     host,
                     minute,
-                    &reader.variables.bytes,
-                    &reader.variables.sizes,
-                    reader.variables.count,
+                    &variables.bytes,
+                    &variables.sizes,
+                    variables.count,
                     &mut scratch,
                 ) {
                     EntryAction::Fault(cause) => {
@@ -186,9 +216,9 @@ pub fn read_table(
                             minute,
                             last,
                             args,
-                            &reader.variables.bytes,
-                            &reader.variables.sizes,
-                            reader.variables.count,
+                            &variables.bytes,
+                            &variables.sizes,
+                            variables.count,
                             &mut scratch,
                             &mut path,
                         );

@@ -1,22 +1,26 @@
--- The definition that fields make: its name, its text, and that nothing stands behind it.
-use mathlib.Core.Path.{_≡_, refl, sym}
+-- The definition that fields make: its name, its text, and that nothing stands behind it; and what its line does.
+use mathlib.Core.Path.{_≡_, refl, sym, ap, _∙_}
 use mathlib.Core.Bool.{not, _&&_}
 use mathlib.Core.List.{List, [], _∷_}
 use Prim.Native.Nat.{ℕ, _≤_}
+use native.Mathlib.Omega.{arith}
 use lib.Dec.{leb}
 use lib.ListN.{length, take}
+use lib.Seq.{length-take-le}
 use Rattle.fault.specs.Fault.{Reading, fault, value, andThen}
 use Rattle.fault.specs.declared.Cause.{Cause}
-use Rattle.fault.specs.declared.Cause.the-variants.{NameLength, TextLength, DefineName, SurplusField, MissingPart}
+use Rattle.fault.specs.declared.Cause.the-variants.{NameLength, TextLength, DefineName, TooManyNames, SurplusField, MissingPart}
 use Rattle.fault.proofs.Readings.{same-value, and-then, required, never}
-use Rattle.variables.specs.Scope.{Scope, Definition, definition, isName, builtIn}
+use Rattle.variables.specs.Scope.{Scope, Definition, definition, define, isName, builtIn}
 use Rattle.variables.specs.Define.{defineName, defineText, defineIn}
 use Rattle.variables.specs.Substitute.{fieldText}
-use Rattle.variables.specs.Contract.{definedIn}
+use Rattle.variables.specs.Contract.{definitionsIn, scopeIn, definedIn, Goes}
 use Rattle.reader.specs.State.{State, withDefinition}
 use Rattle.reader.specs.Colon.{defined, textAfter, defineLine}
-use Rattle.reader.specs.Contract.{lastRead, textRead, definitionRead, definitionIn, Within}
+use Rattle.reader.specs.Contract.{lastRead, textRead, definitionRead, definitionIn, Within, scopeFor, LineDefines}
 use Rattle.reader.specs.declared.define.DefinitionRead.{DefinitionRead}
+use Rattle.variables.specs.declared.DefinePlace.the-variants.{Fault as NoPlace, At as PlaceAt}
+use Rattle.reader.specs.declared.define.DefineRead.the-variants.{Fault as DefineFault, At as DefineAt}
 use Rattle.reader.specs.declared.define.DefinitionRead.the-variants.{Fault as DefinitionFault, Good as DefinitionGood}
 
 -- ---- the parts of a definition, by what was read of each
@@ -166,3 +170,47 @@ module _ (sc : Scope) (s : State) where
       go : (o : Reading Cause (List ℕ)) → andThen o (λ t. andThen (defineName t) (λ n. textAfter sc s n fs)) ≡ andThen (andThen o (λ t. andThen (defineName t) (λ n. textRead sc n fs))) numbered
       go (fault c) = refl
       go (value t) = checked (defineName t)
+
+-- ---- what the line does, by its definition and the place of it
+-- the variables behind a definition that passed
+defined-all : (a b n t : List ℕ) (ds es : List Definition) → a ≡ n → b ≡ t → defineIn (definition n t) ds ≡ value es → define (definition a b) ds ≡ es
+unfolding defineIn
+defined-all a b n t ds es p q h = rw (p, q) (same-value (required (leb (length (define (definition n t) ds)) 64) TooManyNames _ es h .1))
+
+defined-value : (d : Definition) (ds es : List Definition) → definedIn d ds ≡ value es → define d ds ≡ es
+defined-value d ds es h =
+    let u = and-then (defineName (d .name)) _ es h in
+    let v = and-then (defineText (d .text)) _ es (u .2) in
+    defined-all (d .name) (d .text) (u .0) (v .0) ds es (name-kept (d .name) (u .0) (u .1)) (text-kept (d .text) (v .0) (v .1)) (v .2)
+
+module _ (caller host bytes sizes : List ℕ) (names : ℕ) (fs : List (List ℕ)) (name text : List ℕ) where
+  -- the definition's fault is the line's
+  pub line-fault : {c : Cause} → fault c ≡ definitionRead (scopeIn caller host bytes sizes names) fs → LineDefines caller host bytes sizes names fs name text (DefineFault c)
+  line-fault {c} e = record { defines = by }
+    where
+      by : (s : State) → s .definitions ≡ definitionsIn bytes sizes names → defineLine (scopeFor caller host s) s fs ≡ fault c
+      by s h =
+          let g : fault c ≡ definitionRead (scopeFor caller host s) fs = rw h e in
+          rw (define-line (scopeFor caller host s) s fs, ← g)
+
+  module _ (k m : ℕ) (e : value (definition (take k name) (take m text)) ≡ definitionRead (scopeIn caller host bytes sizes names) fs) where
+    abbrev read : Definition
+    read = definition (take k name) (take m text)
+
+    -- only the number of names is left
+    line-is : (s : State) → s .definitions ≡ definitionsIn bytes sizes names → defineLine (scopeFor caller host s) s fs ≡ andThen (definedIn read (definitionsIn bytes sizes names)) (λ ds. value (withDefinition read s))
+    line-is s h =
+        let g : value read ≡ definitionRead (scopeFor caller host s) fs = rw h e in
+        let f : defineLine (scopeFor caller host s) s fs ≡ andThen (definedIn read (s .definitions)) (λ ds. value (withDefinition read s)) = rw (define-line (scopeFor caller host s) s fs, ← g, defined-read (scopeFor caller host s) read fs (sym g) (s .definitions)) in
+        f ∙ ap (λ ds. andThen (definedIn read ds) (λ es. value (withDefinition read s))) h
+
+    -- it has no place
+    pub line-refused : {c : Cause} → Goes bytes sizes names read (NoPlace c) → LineDefines caller host bytes sizes names fs name text (DefineFault c)
+    line-refused w = record { defines = λ s h. line-is s h ∙ ap (λ o. andThen o (λ ds. value (withDefinition read s))) (w .goes) }
+
+    -- stored at its place, it is the state's last change
+    pub line-placed : {i n : ℕ} → k ≤ length name → m ≤ length text → Goes bytes sizes names read (PlaceAt i n) → LineDefines caller host bytes sizes names fs name text (DefineAt i n k m)
+    line-placed p q w =
+        let a : length (take k name) ≡ k = length-take-le k name p in
+        let b : length (take m text) ≡ m = length-take-le m text q in
+        record { defines = (w .goes .0, omega (arith, a, w .goes .1), omega (arith, b, w .goes .2), p, q, λ s h x y t. let v = w .goes .3 x y t in (line-is s h ∙ ap (λ o. andThen o (λ ds. value (withDefinition read s))) v, rw h (defined-value read (definitionsIn bytes sizes names) _ v))) }

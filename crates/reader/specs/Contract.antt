@@ -1,5 +1,5 @@
 -- What the state by value stands for, and what the answers of the code say: cited by contracts and proofs only.
-use Prim.Native.Nat.{ℕ, _≤_}
+use Prim.Native.Nat.{ℕ, _≤_, _<_}
 use mathlib.Core.Path.{_≡_}
 use mathlib.Core.Bool.{Bool, true, false, not}
 use mathlib.Core.List.{List, [], _∷_, _++_}
@@ -10,16 +10,16 @@ use Rattle.fault.specs.Fault.{Reading, fault, value, andThen, readAll, require}
 use Rattle.fault.specs.declared.Cause.{Cause}
 use Rattle.fault.specs.declared.Cause.the-variants.{SurplusField, MissingPart, OptionTwice}
 use Rattle.question.specs.Question.{Question}
-use Rattle.variables.specs.Scope.{Scope, Definition, definition}
-use Rattle.variables.specs.Define.{namesLimit, defineName, defineText}
+use Rattle.variables.specs.Scope.{Scope, Definition, definition, define}
+use Rattle.variables.specs.Define.{nameLimit, textLimit, namesLimit, defineName, defineText}
 use Rattle.variables.specs.Substitute.{fieldText}
-use Rattle.variables.specs.Contract.{definitionsOf}
+use Rattle.variables.specs.Contract.{definitionsIn, Stores}
 use Rattle.options.specs.Options.{Options}
 use Rattle.options.specs.Arguments.{ArgumentPattern}
 use Rattle.options.specs.Read.{Setting, optionsOf, argumentsOf, twice}
 use Rattle.options.specs.Contract.{optionsIn, lineOf, failures}
 use Rattle.entry.specs.Entry.{entryOf}
-use Rattle.reader.specs.State.{State, scopeOf, withEntry}
+use Rattle.reader.specs.State.{State, scopeOf, withDefinition, withEntry}
 use Rattle.reader.specs.Colon.{globalField, defineLine, globalLine, ifLine}
 use Rattle.reader.specs.Read.{judgeFor}
 use Rattle.reader.specs.declared.word.ColonWord.{ColonWord}
@@ -32,6 +32,8 @@ use Rattle.reader.specs.declared.control_line.Action.{Action}
 use Rattle.reader.specs.declared.control_line.Action.the-variants.{Fault as ActionFault, Nothing, Define, Global, Entry}
 use Rattle.reader.specs.declared.define.DefinitionRead.{DefinitionRead}
 use Rattle.reader.specs.declared.define.DefinitionRead.the-variants.{Fault as DefinitionFault, Good as DefinitionGood}
+use Rattle.reader.specs.declared.define.DefineRead.{DefineRead}
+use Rattle.reader.specs.declared.define.DefineRead.the-variants.{Fault as DefineFault, At as DefineAt}
 use Rattle.reader.specs.declared.global.GlobalRead.{GlobalRead}
 use Rattle.reader.specs.declared.global.GlobalOutcome.the-variants.{Fault as GlobalFault, Good as GlobalGood}
 use Rattle.reader.specs.declared.state.Reader.{Reader}
@@ -66,6 +68,10 @@ acted q line s fs (Define i) = defineLine (scopeOf q s) s (drop i fs)
 acted q line s fs (Global i) = globalLine (scopeOf q s) s (drop i fs)
 acted q line s fs (Entry i) = andThen (entryOf (judgeFor q) (scopeOf q s) (drop i fs)) (λ e. value (withEntry q line e s))
 
+-- the scope of a caller, a host and the variables of a state
+abbrev pub scopeFor : List ℕ → List ℕ → State → Scope
+scopeFor caller host s = record { caller = caller; host = host; definitions = s .definitions }
+
 -- ---- `:define`
 -- nothing stands behind the text
 abbrev pub lastRead : Scope → Definition → List (List ℕ) → Reading Cause Definition
@@ -91,6 +97,14 @@ definitionIn name text (DefinitionGood k n) = value (definition (take k name) (t
 abbrev pub Within : List ℕ → List ℕ → DefinitionRead → Type 0
 Within name text (DefinitionFault c) = Unit {0}
 Within name text (DefinitionGood k n) = (k ≤ length name) × (n ≤ length text)
+
+-- the line's fault, or: whoever stores the definition at the place has the variables of the new state
+abbrev pub LineDefinesIn : List ℕ → List ℕ → List ℕ → List ℕ → ℕ → List (List ℕ) → List ℕ → List ℕ → DefineRead → Type 0
+LineDefinesIn caller host bytes sizes names fs name text (DefineFault c) = (s : State) → s .definitions ≡ definitionsIn bytes sizes names → defineLine (scopeFor caller host s) s fs ≡ fault c
+LineDefinesIn caller host bytes sizes names fs name text (DefineAt i n k m) = (i < namesLimit) × (k ≤ nameLimit) × (m ≤ textLimit) × (k ≤ length name) × (m ≤ length text) × ((s : State) → s .definitions ≡ definitionsIn bytes sizes names → (newBytes newSizes : List ℕ) → Stores bytes sizes i (definition (take k name) (take m text)) newBytes newSizes → (defineLine (scopeFor caller host s) s fs ≡ value (withDefinition (definition (take k name) (take m text)) s)) × (define (definition (take k name) (take m text)) (s .definitions) ≡ definitionsIn newBytes newSizes n))
+
+pub record LineDefines (caller host bytes sizes : List ℕ) (names : ℕ) (fs : List (List ℕ)) (name text : List ℕ) (r : DefineRead) : Type 0 where
+  pub defines : LineDefinesIn caller host bytes sizes names fs name text r
 
 -- ---- `:global`
 -- the settings of the line
@@ -120,10 +134,8 @@ pub record Reads (ps : List ArgumentPattern) (args : List (List ℕ)) (o : Readi
   pub reads : ReadsIn ps args o r
 
 -- ---- the state
--- the state by value is the meaning's, but for the decision: of the argument patterns in force it keeps which arguments fail
+-- the state by value is the meaning's, but for the variables and the decision: of the argument patterns in force it keeps which arguments fail
 pub record Keeps (args : List (List ℕ)) (r : Reader) (s : State) : Type 0 where
-  pub variables : definitionsOf (r .variables) ≡ s .definitions
-  pub within : r .variables .count ≤ namesLimit
   pub options : optionsIn (r .options) ≡ s .options
   pub failures : r .failures .at ≡ failures (s .arguments) args
   pub shell : r .shell ≡ s .shell
@@ -135,7 +147,3 @@ ChangesIn args (value s) r = (r .outcome ≡ LineGood) × Keeps args (r .reader)
 
 pub record Changes (args : List (List ℕ)) (o : Reading Cause State) (r : Changed) : Type 0 where
   pub changes : ChangesIn args o r
-
--- the scope of a caller, a host and the variables of a state
-abbrev pub scopeFor : List ℕ → List ℕ → State → Scope
-scopeFor caller host s = record { caller = caller; host = host; definitions = s .definitions }

@@ -1,14 +1,16 @@
-// The name and the text of a `:define`.
+// The name and the text of a `:define`, and where it goes.
 use fault::Cause;
 use line::fields::field;
 use line::scan::ScannedLine;
 use text::number::at_most;
+use variables::DefinePlace;
 use variables::Variables;
 use variables::definition::Checked;
 use variables::definition::check_name;
 use variables::definition::check_text;
 use variables::field::FieldText;
 use variables::field::field_text;
+use variables::place_for;
 ghost use Prim.Native.Nat.{ℕ, _≤_};
 ghost use mathlib.Core.Path.{_≡_};
 ghost use mathlib.Core.List.{List, _∷_};
@@ -17,12 +19,18 @@ ghost use Rattle.fault.specs.Fault.{fault, value as good, andThen};
 ghost use Rattle.line.specs.Contract.{fieldsIn};
 ghost use Rattle.variables.specs.Scope.{Definition, definition};
 ghost use Rattle.variables.specs.Contract.{scopeIn, textReading, lengthTold};
-ghost use Rattle.reader.specs.Contract.{lastRead, textRead, definitionRead, definitionIn, Within};
+ghost use Rattle.reader.specs.Contract.{lastRead, textRead, definitionRead, definitionIn, Within, LineDefines};
 
 // How many bytes name and text have, each in its buffer.
-pub enum DefinitionRead {
+enum DefinitionRead {
     Fault(Cause),
     Good(usize, usize),
+}
+
+// What a `:define` does: its place, how many names there are then, and how many bytes name and text have, each in its buffer.
+pub enum DefineRead {
+    Fault(Cause),
+    At(usize, usize, usize, usize),
 }
 
 // The fault of a field behind the text: its own, or that it stands there.
@@ -93,7 +101,7 @@ fn read_text<'a, 'b>(
 }
 
 // The definition that the fields make from one of them on: its name and its text, at the beginnings of the lent buffers.
-pub fn read_definition<'a, 'b>(
+fn read_definition<'a, 'b>(
     text: &'a [u8],
     ends: &'a [usize; 64],
     count: usize,
@@ -140,6 +148,48 @@ pub fn read_definition<'a, 'b>(
             ) {
                 FieldText::Fault(cause) => DefinitionRead::Fault(cause),
                 FieldText::Text(m) => DefinitionRead::Good(n, m),
+            }
+        }
+    }
+}
+
+// What the `:define` does that the fields make from one of them on; its name and its text at the beginnings of the lent
+// buffers.
+pub fn read_define<'a, 'b>(
+    text: &'a [u8],
+    ends: &'a [usize; 64],
+    count: usize,
+    from: usize,
+    user: &[u8],
+    host: &[u8],
+    bytes: &'b [u8; Variables::BYTES],
+    sizes: &'b [usize; Variables::SIZES],
+    names: usize,
+    name: &mut [u8; FieldText::BYTES],
+    value: &mut [u8; FieldText::BYTES],
+) -> DefineRead
+    ensures { λ r. ⌜ LineDefines (now (user .entry)) (now (host .entry)) (now (bytes .entry)) (now (sizes .entry)) names (drop from (fieldsIn (now (text .entry)) (now (ends .entry)) count)) (now (name .exit)) (now (value .exit)) r ⌝ }
+{
+    match read_definition(
+        text,
+        ends,
+        count,
+        from,
+        user,
+        host,
+        bytes,
+        sizes,
+        names,
+        name,
+        value,
+    ) {
+        DefinitionRead::Fault(cause) => DefineRead::Fault(cause),
+        DefinitionRead::Good(k, n) => {
+            let all = &name[..];
+            let written = &value[..];
+            match place_for(bytes, sizes, names, &all[..k], &written[..n]) {
+                DefinePlace::Fault(cause) => DefineRead::Fault(cause),
+                DefinePlace::At(place, total) => DefineRead::At(place, total, k, n),
             }
         }
     }

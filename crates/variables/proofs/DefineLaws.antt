@@ -11,11 +11,10 @@ use Rattle.text.proofs.Laws.{clash}
 use Rattle.fault.specs.Fault.{fault, value}
 use Rattle.fault.specs.declared.Cause.{Cause}
 use Rattle.fault.specs.declared.Cause.the-variants.{NameLength, TextLength, DefineName}
-use Rattle.variables.specs.declared.Variables.{Variables}
 use Rattle.variables.specs.Scope.{Definition, isName, builtIn}
 use Rattle.variables.specs.Define.{defineName, defineText, defineIn}
-use Rattle.variables.specs.Contract.{definitionsOf, Defines}
-use Rattle.variables.specs.declared.DefineOutcome.the-variants.{Stored, Fault as NotStored}
+use Rattle.variables.specs.Contract.{definitionsIn, Stores, Goes}
+use Rattle.variables.specs.declared.DefinePlace.the-variants.{At as PlaceAt, Fault as NoPlace}
 
 module _ (n : List ℕ) where
   pub long-name : 64 < length n → fault NameLength ≡ defineName n
@@ -52,19 +51,19 @@ name-short n e = elim (decLe (length n) 64) [ yes h ↦ h | no h ↦ let f = lon
 pub text-short : (t : List ℕ) → value t ≡ defineText t → length t ≤ 256
 text-short t e = elim (decLe (length t) 256) [ yes h ↦ h | no h ↦ let f = long-text t (omega arith) in clash cc ]
 
-module _ {old : Variables} {d : Definition} where
+module _ {bytes sizes : List ℕ} {count : ℕ} {d : Definition} where
   -- a name or a text that is refused
-  pub refused-name : {c : Cause} → fault c ≡ defineName (d .name) → Defines old d (NotStored c) old
-  refused-name e = record { outcome = rw (← e); variables = rw (← e); within = λ h. h }
+  pub refused-name : {c : Cause} → fault c ≡ defineName (d .name) → Goes bytes sizes count d (NoPlace c)
+  refused-name e = record { goes = rw (← e) }
 
   module _ (n : value (d .name) ≡ defineName (d .name)) where
-    pub refused-text : {c : Cause} → fault c ≡ defineText (d .text) → Defines old d (NotStored c) old
-    refused-text e = record { outcome = rw (← n, ← e); variables = rw (← n, ← e); within = λ h. h }
+    pub refused-text : {c : Cause} → fault c ≡ defineText (d .text) → Goes bytes sizes count d (NoPlace c)
+    refused-text e = record { goes = rw (← n, ← e) }
 
     -- both are good: by the number of names
     module _ (t : value (d .text) ≡ defineText (d .text)) where
-      pub stored : {new : Variables} → defineIn d (definitionsOf old) ≡ value (definitionsOf new) → (old .count ≤ 64 → new .count ≤ 64) → Defines old d Stored new
-      stored e w = record { outcome = rw (← n, ← t, e); variables = rw (← n, ← t, e); within = w }
+      pub goes-at : {i k : ℕ} → i < 64 → ((newBytes newSizes : List ℕ) → Stores bytes sizes i d newBytes newSizes → defineIn d (definitionsIn bytes sizes count) ≡ value (definitionsIn newBytes newSizes k)) → Goes bytes sizes count d (PlaceAt i k)
+      goes-at h e = record { goes = (h, name-short (d .name) n, text-short (d .text) t, λ x y w. rw (← n, ← t) (e x y w)) }
 
-      pub not-stored : {c : Cause} → defineIn d (definitionsOf old) ≡ fault c → Defines old d (NotStored c) old
-      not-stored e = record { outcome = rw (← n, ← t, e); variables = rw (← n, ← t, e); within = λ h. h }
+      pub no-place : {c : Cause} → defineIn d (definitionsIn bytes sizes count) ≡ fault c → Goes bytes sizes count d (NoPlace c)
+      no-place e = record { goes = rw (← n, ← t) e }

@@ -21,8 +21,7 @@ use Rattle.fault.specs.Fault.{Reading, fault, value, andThen}
 use Rattle.fault.specs.declared.Cause.{Cause}
 use Rattle.fault.specs.declared.Cause.the-variants.{FieldLength}
 use Rattle.variables.specs.declared.Variables.{Variables}
-use Rattle.variables.specs.declared.VariableText.{VariableText}
-use Rattle.variables.specs.declared.DefineOutcome.{DefineOutcome}
+use Rattle.variables.specs.declared.DefinePlace.{DefinePlace}
 use Rattle.variables.specs.declared.definition.Checked.{Checked}
 use Rattle.variables.specs.declared.field.FieldText.{FieldText}
 use Rattle.variables.specs.declared.field.TextRun.{TextRun}
@@ -33,7 +32,7 @@ use Rattle.variables.specs.declared.field.Referred.the-variants.{Known, 
 use Rattle.variables.specs.Scope.{Definition, definition, Scope, nameText}
 use Rattle.variables.specs.Define.{nameLimit, textLimit, namesLimit, defineName, defineText, defineIn}
 use Rattle.variables.specs.Substitute.{Substitution, substitution, stays, refers, reference, substitute, substituted, fieldText}
-use Rattle.variables.specs.declared.DefineOutcome.the-variants.{Stored, Fault as NotStored}
+use Rattle.variables.specs.declared.DefinePlace.the-variants.{At as PlaceAt, Fault as NoPlace}
 use Rattle.variables.specs.declared.definition.Checked.the-variants.{Good, Fault as NotGood}
 use Rattle.variables.specs.declared.field.FieldText.the-variants.{Text, Fault as NoText}
 
@@ -74,10 +73,6 @@ unfoldable pub definedAt : ℕ → List ℕ → List Definition → Found
 definedAt i n [] = Nothing
 definedAt i n (d ∷ ds) = cond (same (d .name) n) (At i) (definedAt (i + 1) n ds)
 
--- what a look-up tells
-abbrev pub textFound : VariableText → Option (List ℕ)
-textFound t = cond (t .known) (some (take (t .bytes) (t .text))) none
-
 -- one place was written, and the others stay
 pub record Stores (bytes sizes : List ℕ) (at : ℕ) (d : Definition) (newBytes newSizes : List ℕ) : Type 0 where
   pub here : definitionAt newBytes newSizes at ≡ d
@@ -93,20 +88,13 @@ checkedReading (NotGood c) s = fault c
 abbrev pub definedIn : Definition → List Definition → Reading Cause (List Definition)
 definedIn d ds = andThen (defineName (d .name)) (λ n. andThen (defineText (d .text)) (λ t. defineIn (definition n t) ds))
 
-abbrev pub outcomeTold : Reading Cause (List Definition) → DefineOutcome
-outcomeTold (fault c) = NotStored c
-outcomeTold (value ds) = Stored
+-- why a definition is refused, or: whoever stores it at the place has the variables with it
+abbrev pub GoesIn : List ℕ → List ℕ → ℕ → Definition → DefinePlace → Type 0
+GoesIn bytes sizes count d (NoPlace c) = definedIn d (definitionsIn bytes sizes count) ≡ fault c
+GoesIn bytes sizes count d (PlaceAt i n) = (i < namesLimit) × (length (d .name) ≤ nameLimit) × (length (d .text) ≤ textLimit) × ((newBytes newSizes : List ℕ) → Stores bytes sizes i d newBytes newSizes → definedIn d (definitionsIn bytes sizes count) ≡ value (definitionsIn newBytes newSizes n))
 
--- a refused definition changes none
-abbrev pub definitionsAfter : List Definition → Reading Cause (List Definition) → List Definition
-definitionsAfter old (fault c) = old
-definitionsAfter old (value ds) = ds
-
--- the variables with a definition more, or why not; they stay within their places
-pub record Defines (old : Variables) (d : Definition) (r : DefineOutcome) (new : Variables) : Type 0 where
-  pub outcome : r ≡ outcomeTold (definedIn d (definitionsOf old))
-  pub variables : definitionsOf new ≡ definitionsAfter (definitionsOf old) (definedIn d (definitionsOf old))
-  pub within : old .count ≤ namesLimit → new .count ≤ namesLimit
+pub record Goes (bytes sizes : List ℕ) (count : ℕ) (d : Definition) (r : DefinePlace) : Type 0 where
+  pub goes : GoesIn bytes sizes count d r
 
 -- ---- a field's text
 -- a byte that stands for itself outside quotes: no quote and no `$`

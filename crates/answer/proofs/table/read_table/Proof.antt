@@ -1,35 +1,24 @@
-use native.Mathlib.Omega.{arith}
-use borrow.Author.Needs.{needs}
 use mathlib.Core.Path.{_≡_, refl, sym, ap, _∙_}
 use Prim.Native.Nat.{ℕ, _+_, _-_, _≤_}
+use native.Mathlib.Omega.{arith}
+use borrow.Author.Needs.{needs}
 use lib.ListN.{length, length-replicate}
+use lib.Seq.{length-take-le}
 use Rattle.question.specs.Question.{Question}
 use Rattle.line.proofs.ScanLaws.{scans-length, scans-fault, scans-good}
 use Rattle.answer.specs.Meaning.{settled}
 use Rattle.answer.specs.Contract.{AskedWith}
 use Rattle.answer.proofs.TableLaws.{SoFar, so-start, so-end, so-cut, so-empty, so-scanned}
-use Rattle.answer.proofs.ArmLaws.{ends-kept, arm-fault, arm-nothing, arm-define-fault, arm-defined, arm-global-fault, arm-set, arm-entry-fault, arm-passed, arm-decided}
+use Rattle.answer.proofs.ArmLaws.{ends-kept, place-within, arm-fault, arm-nothing, arm-define-fault, arm-defined, arm-global-fault, arm-set, arm-entry-fault, arm-passed, arm-decided}
 use Rattle.answer.proofs.table.read_table.Statement.{statement}
 use Rattle.answer.proofs.table.read_table.Tie as tie
-use Rattle.answer.proofs.table.read_table.Reads as reads
-use Rattle.answer.proofs.table.read_table.Lts as lts
-use Rattle.answer.proofs.table.settle.Reads as settle-reads
-use Rattle.entry_line.proofs.decide.decide.Reads as decide-reads
-use Rattle.entry_line.proofs.read.read_entry.Reads as read-entry-reads
-use Rattle.line.proofs.ends.control_end.Reads as control-end-reads
-use Rattle.line.proofs.scan.scan_line.Reads as scan-line-reads
-use Rattle.options.proofs.set.OptionSet.new.Reads as set-OptionSet-new-reads
-use Rattle.reader.proofs.control_line.control_line.Reads as control-line-reads
-use Rattle.reader.proofs.state.Reader.define.Reads as define-reads
-use Rattle.reader.proofs.state.Reader.global.Reads as global-reads
-use Rattle.reader.proofs.state.Reader.new.Reads as state-Reader-new-reads
 
 abbrev Inv-loop : tie.InvT-loop
-Inv-loop table command user groups host minute last args buffer reader₀ decision₀ path₀ scratch₀ text₀ ends₀ at₀ number₀ reader decision path scratch text ends at number =
-    (at ≤ length table) × (number ≤ at + 1) × (length text ≡ 4096) × (length ends ≡ 64) × ((q : Question) → AskedWith q command user groups host minute last args → SoFar q table reader decision path at number)
+Inv-loop table command user groups host minute last args buffer variables₀ reader₀ decision₀ path₀ scratch₀ text₀ ends₀ at₀ number₀ variables reader decision path scratch text ends at number =
+    (at ≤ length table) × (number ≤ at + 1) × (length text ≡ 4096) × (length ends ≡ 64) × ((q : Question) → AskedWith q command user groups host minute last args → SoFar q table variables reader decision path at number)
 
 abbrev μ-loop : tie.MeasureT-loop
-μ-loop table command user groups host minute last args buffer reader₀ decision₀ path₀ scratch₀ text₀ ends₀ at₀ number₀ reader decision path scratch text ends at number = length table - at
+μ-loop table command user groups host minute last args buffer variables₀ reader₀ decision₀ path₀ scratch₀ text₀ ends₀ at₀ number₀ variables reader decision path scratch text ends at number = length table - at
 
 new-requires : tie.Need-new-requires Inv-loop μ-loop
 new-requires c κs = search needs
@@ -37,8 +26,11 @@ new-requires c κs = search needs
 new-requires-2 : tie.Need-new-requires-2 Inv-loop μ-loop
 new-requires-2 c κs = search needs
 
+new-requires-3 : tie.Need-new-requires-3 Inv-loop μ-loop
+new-requires-3 c κs = search needs
+
 loop-holds : tie.Need-loop-holds Inv-loop μ-loop
-loop-holds c = (omega arith, omega arith, length-replicate {A = ℕ} 4096 0, length-replicate {A = ℕ} 64 0, λ q a. so-start q _ (c .before .new .ensures (q .args)) refl)
+loop-holds c = (omega arith, omega arith, length-replicate {A = ℕ} 4096 0, length-replicate {A = ℕ} 64 0, λ q a. so-start q _ (c .before .before .new .ensures) (c .before .new2 .ensures (q .args)) refl)
 
 control-end-requires : tie.Need-control-end-requires Inv-loop μ-loop
 control-end-requires c κs = search needs
@@ -53,17 +45,18 @@ returns : tie.Need-returns Inv-loop μ-loop
 returns c = λ q a. let h = rw (c .enum-told .given .1) at (c .before .before .control-end .ensures) in ap (settled _) (sym (so-cut q _ (c .before .before .before .before .loop .inv .4 q a) (c .before .before .before .loop-test .taken) (h (c .before .before .before .before .loop .number))))
 
 add-number : tie.Need-add-number Inv-loop μ-loop
-add-number c = let w = (rw (c .before .end .given .1) at (c .before .before .before .control-end .ensures)) in omega (arith, w .few, w .high, c .before .before .before .before .before .loop .inv .0, c .before .before .before .before .before .loop .inv .1, c .before .before .before .before .before .before .before .before .before .before .before .before .before .before .before .pre .1)
+add-number c = let w = (rw (c .before .end .given .1) at (c .before .before .before .control-end .ensures)) in omega (arith, w .few, w .high, c .before .before .before .before .before .loop .inv .0, c .before .before .before .before .before .loop .inv .1, c .before .before .before .before .before .before .before .before .before .before .before .before .before .before .before .before .pre .1)
 
 add-if1 : tie.Need-add-if1 Inv-loop μ-loop
-add-if1 c = omega (arith, c .before .before .before .before .before .loop .inv .0, c .before .before .before .before .before .before .before .before .before .before .before .before .before .before .before .pre .1)
+add-if1 c = omega (arith, c .before .before .before .before .before .loop .inv .0, c .before .before .before .before .before .before .before .before .before .before .before .before .before .before .before .before .pre .1)
 
 loop-less : tie.Need-loop-less Inv-loop μ-loop
 loop-less c = let w = (rw (c .before .before .end .given .1) at (c .before .before .before .before .control-end .ensures)) in omega (arith, w .low, w .high)
 
 loop-again : tie.Need-loop-again Inv-loop μ-loop
 loop-again c =
-    let w = (rw (c .before .before .end .given .1) at (c .before .before .before .before .control-end .ensures)) in let l = c .before .before .before .before .before .before .loop in
+    let w = (rw (c .before .before .end .given .1) at (c .before .before .before .before .control-end .ensures)) in
+    let l = c .before .before .before .before .before .before .loop in
     (w .high, omega (arith, w .few, l .inv .1), l .inv .2, l .inv .3, λ q a. so-empty q _ (l .inv .4 q a) w (c .if1 .taken))
 
 sub-scan-line : tie.Need-sub-scan-line Inv-loop μ-loop
@@ -117,38 +110,55 @@ loop-less-2 c = let w = (rw (c .before .before .before .before .before .before .
 
 loop-again-2 : tie.Need-loop-again-2 Inv-loop μ-loop
 loop-again-2 c =
-    let w = (rw (c .before .before .before .before .before .before .before .before .before .before .before .before .before .before .before .before .before .before .end .given .1) at (c .before .before .before .before .before .before .before .before .before .before .before .before .before .before .before .before .before .before .before .before .control-end .ensures)) in let l = c .before .before .before .before .before .before .before .before .before .before .before .before .before .before .before .before .before .before .before .before .before .before .loop in
-    (w .high, omega (arith, w .few, l .inv .1), scans-length (c .before .before .before .before .before .before .before .before .before .before .before .before .scan-line .ensures) ∙ c .before .before .before .before .before .before .before .before .before .before .before .before .before .before .before .before .before .before .before .before .before .before .loop .inv .2, ends-kept (c .before .before .before .before .before .before .before .before .before .before .before .before .scan-line .ensures) ∙ c .before .before .before .before .before .before .before .before .before .before .before .before .before .before .before .before .before .before .before .before .before .before .loop .inv .3, λ q a. let f = l .inv .4 q a in let g = (scans-good (c .before .before .before .before .before .before .before .before .before .before .before .before .scan-line .ensures) (c .before .before .before .before .before .before .before .before .before .n .given .1) (omega (arith, c .before .before .before .before .before .before .before .before .before .before .before .before .before .before .before .before .before .before .before .before .before .before .loop .inv .2)) (c .before .before .before .before .before .before .before .before .before .before .before .before .before .before .before .before .before .before .before .before .before .before .loop .inv .3) .0) in arm-nothing a f w g _ (c .before .before .control-line .ensures) (c .enum-told2 .given .1))
+    let w = (rw (c .before .before .before .before .before .before .before .before .before .before .before .before .before .before .before .before .before .before .end .given .1) at (c .before .before .before .before .before .before .before .before .before .before .before .before .before .before .before .before .before .before .before .before .control-end .ensures)) in
+    let l = c .before .before .before .before .before .before .before .before .before .before .before .before .before .before .before .before .before .before .before .before .before .before .loop in
+    (w .high, omega (arith, w .few, l .inv .1), scans-length (c .before .before .before .before .before .before .before .before .before .before .before .before .scan-line .ensures) ∙ l .inv .2, ends-kept (c .before .before .before .before .before .before .before .before .before .before .before .before .scan-line .ensures) ∙ l .inv .3, λ q a. let f = l .inv .4 q a in let g = (scans-good (c .before .before .before .before .before .before .before .before .before .before .before .before .scan-line .ensures) (c .before .before .before .before .before .before .before .before .before .n .given .1) (omega (arith, c .before .before .before .before .before .before .before .before .before .before .before .before .before .before .before .before .before .before .before .before .before .before .loop .inv .2)) (c .before .before .before .before .before .before .before .before .before .before .before .before .before .before .before .before .before .before .before .before .before .before .loop .inv .3) .0) in arm-nothing a f w g _ (c .before .before .control-line .ensures) (c .enum-told2 .given .1))
 
 enum-known-from : tie.Need-enum-known-from Inv-loop μ-loop
 enum-known-from c = search needs
 
+slice-aggregate-read-define : tie.Need-slice-aggregate-read-define Inv-loop μ-loop
+slice-aggregate-read-define c = omega arith
+
+read-define-requires : tie.Need-read-define-requires Inv-loop μ-loop
+read-define-requires c κs = search needs
+
+enum-known-cause-3 : tie.Need-enum-known-cause-3 Inv-loop μ-loop
+enum-known-cause-3 c = search needs
+
+returns-4 : tie.Need-returns-4 Inv-loop μ-loop
+returns-4 c = λ q a.
+    let w = (rw (c .before .before .before .before .before .before .before .before .before .before .before .before .before .before .before .before .before .before .before .before .before .before .before .before .before .before .before .before .before .before .end .given .1) at (c .before .before .before .before .before .before .before .before .before .before .before .before .before .before .before .before .before .before .before .before .before .before .before .before .before .before .before .before .before .before .before .before .control-end .ensures)) in
+    let f = c .before .before .before .before .before .before .before .before .before .before .before .before .before .before .before .before .before .before .before .before .before .before .before .before .before .before .before .before .before .before .before .before .before .before .loop .inv .4 q a in
+    let g = (scans-good (c .before .before .before .before .before .before .before .before .before .before .before .before .before .before .before .before .before .before .before .before .before .before .before .before .scan-line .ensures) (c .before .before .before .before .before .before .before .before .before .before .before .before .before .before .before .before .before .before .before .before .before .n .given .1) (omega (arith, c .before .before .before .before .before .before .before .before .before .before .before .before .before .before .before .before .before .before .before .before .before .before .before .before .before .before .before .before .before .before .before .before .before .before .loop .inv .2)) (c .before .before .before .before .before .before .before .before .before .before .before .before .before .before .before .before .before .before .before .before .before .before .before .before .before .before .before .before .before .before .before .before .before .before .loop .inv .3) .0) in
+    ap (settled _) (sym (arm-define-fault a f w g _ (c .before .before .before .before .before .before .before .before .before .before .before .before .before .before .control-line .ensures) (c .before .before .before .before .before .before .before .before .before .before .before .before .from .given .1) (c .before .before .before .read-define .ensures) (c .before .cause3 .given .1)))
+
+enum-known-place : tie.Need-enum-known-place Inv-loop μ-loop
+enum-known-place c = search needs
+
+array-share-prefix-name : tie.Need-array-share-prefix-name Inv-loop μ-loop
+array-share-prefix-name c = let s = place-within (c .before .before .before .read-define .ensures) (c .before .place .given .1) in s .0
+
 slice-aggregate-define : tie.Need-slice-aggregate-define Inv-loop μ-loop
-slice-aggregate-define c = omega arith
+slice-aggregate-define c = let s = place-within (c .before .before .before .before .read-define .ensures) (c .before .before .place .given .1) in sym (length-take-le _ _ (s .0))
+
+array-share-prefix-value : tie.Need-array-share-prefix-value Inv-loop μ-loop
+array-share-prefix-value c = let s = place-within (c .before .before .before .before .read-define .ensures) (c .before .before .place .given .1) in s .1
+
+slice-aggregate-define-2 : tie.Need-slice-aggregate-define-2 Inv-loop μ-loop
+slice-aggregate-define-2 c = let s = place-within (c .before .before .before .before .before .read-define .ensures) (c .before .before .before .place .given .1) in sym (length-take-le _ _ (s .1))
 
 define-requires : tie.Need-define-requires Inv-loop μ-loop
 define-requires c κs = search needs
 
-enum-known-outcome : tie.Need-enum-known-outcome Inv-loop μ-loop
-enum-known-outcome c = search needs
-
-returns-4 : tie.Need-returns-4 Inv-loop μ-loop
-returns-4 c = λ q a.
-    let w = (rw (c .before .before .before .before .before .before .before .before .before .before .before .before .before .before .before .before .before .before .before .before .before .before .before .before .before .end .given .1) at (c .before .before .before .before .before .before .before .before .before .before .before .before .before .before .before .before .before .before .before .before .before .before .before .before .before .before .before .control-end .ensures)) in
-    let f = c .before .before .before .before .before .before .before .before .before .before .before .before .before .before .before .before .before .before .before .before .before .before .before .before .before .before .before .before .before .loop .inv .4 q a in
-    let g = (scans-good (c .before .before .before .before .before .before .before .before .before .before .before .before .before .before .before .before .before .before .before .scan-line .ensures) (c .before .before .before .before .before .before .before .before .before .before .before .before .before .before .before .before .n .given .1) (omega (arith, c .before .before .before .before .before .before .before .before .before .before .before .before .before .before .before .before .before .before .before .before .before .before .before .before .before .before .before .before .before .loop .inv .2)) (c .before .before .before .before .before .before .before .before .before .before .before .before .before .before .before .before .before .before .before .before .before .before .before .before .before .before .before .before .before .loop .inv .3) .0) in
-    ap (settled _) (sym (arm-define-fault a f w g _ (c .before .before .before .before .before .before .before .before .before .control-line .ensures) (c .before .before .before .before .before .before .before .from .given .1) (c .before .before .before .define .ensures) (c .before .outcome .given .1)))
-
-enum-told-3 : tie.Need-enum-told-3 Inv-loop μ-loop
-enum-told-3 c = search needs
-
 loop-less-3 : tie.Need-loop-less-3 Inv-loop μ-loop
-loop-less-3 c = let w = (rw (c .before .before .before .before .before .before .before .before .before .before .before .before .before .before .before .before .before .before .before .before .before .before .before .before .before .end .given .1) at (c .before .before .before .before .before .before .before .before .before .before .before .before .before .before .before .before .before .before .before .before .before .before .before .before .before .before .before .control-end .ensures)) in omega (arith, w .low, w .high)
+loop-less-3 c = let w = (rw (c .before .before .before .before .before .before .before .before .before .before .before .before .before .before .before .before .before .before .before .before .before .before .before .before .before .before .before .before .before .before .before .before .before .end .given .1) at (c .before .before .before .before .before .before .before .before .before .before .before .before .before .before .before .before .before .before .before .before .before .before .before .before .before .before .before .before .before .before .before .before .before .before .before .control-end .ensures)) in omega (arith, w .low, w .high)
 
 loop-again-3 : tie.Need-loop-again-3 Inv-loop μ-loop
 loop-again-3 c =
-    let w = (rw (c .before .before .before .before .before .before .before .before .before .before .before .before .before .before .before .before .before .before .before .before .before .before .before .before .before .end .given .1) at (c .before .before .before .before .before .before .before .before .before .before .before .before .before .before .before .before .before .before .before .before .before .before .before .before .before .before .before .control-end .ensures)) in let l = c .before .before .before .before .before .before .before .before .before .before .before .before .before .before .before .before .before .before .before .before .before .before .before .before .before .before .before .before .before .loop in
-    (w .high, omega (arith, w .few, l .inv .1), scans-length (c .before .before .before .before .before .before .before .before .before .before .before .before .before .before .before .before .before .before .before .scan-line .ensures) ∙ c .before .before .before .before .before .before .before .before .before .before .before .before .before .before .before .before .before .before .before .before .before .before .before .before .before .before .before .before .before .loop .inv .2, ends-kept (c .before .before .before .before .before .before .before .before .before .before .before .before .before .before .before .before .before .before .before .scan-line .ensures) ∙ c .before .before .before .before .before .before .before .before .before .before .before .before .before .before .before .before .before .before .before .before .before .before .before .before .before .before .before .before .before .loop .inv .3, λ q a. let f = l .inv .4 q a in let g = (scans-good (c .before .before .before .before .before .before .before .before .before .before .before .before .before .before .before .before .before .before .before .scan-line .ensures) (c .before .before .before .before .before .before .before .before .before .before .before .before .before .before .before .before .n .given .1) (omega (arith, c .before .before .before .before .before .before .before .before .before .before .before .before .before .before .before .before .before .before .before .before .before .before .before .before .before .before .before .before .before .loop .inv .2)) (c .before .before .before .before .before .before .before .before .before .before .before .before .before .before .before .before .before .before .before .before .before .before .before .before .before .before .before .before .before .loop .inv .3) .0) in arm-defined a f w g _ (c .before .before .before .before .before .before .before .before .before .control-line .ensures) (c .before .before .before .before .before .before .before .from .given .1) (c .before .before .before .define .ensures) (c .before .enum-told3 .given .1))
+    let w = (rw (c .before .before .before .before .before .before .before .before .before .before .before .before .before .before .before .before .before .before .before .before .before .before .before .before .before .before .before .before .before .before .before .before .before .end .given .1) at (c .before .before .before .before .before .before .before .before .before .before .before .before .before .before .before .before .before .before .before .before .before .before .before .before .before .before .before .before .before .before .before .before .before .before .before .control-end .ensures)) in
+    let l = c .before .before .before .before .before .before .before .before .before .before .before .before .before .before .before .before .before .before .before .before .before .before .before .before .before .before .before .before .before .before .before .before .before .before .before .before .before .loop in
+    (w .high, omega (arith, w .few, l .inv .1), scans-length (c .before .before .before .before .before .before .before .before .before .before .before .before .before .before .before .before .before .before .before .before .before .before .before .before .before .before .before .scan-line .ensures) ∙ l .inv .2, ends-kept (c .before .before .before .before .before .before .before .before .before .before .before .before .before .before .before .before .before .before .before .before .before .before .before .before .before .before .before .scan-line .ensures) ∙ l .inv .3, λ q a. let f = l .inv .4 q a in let g = (scans-good (c .before .before .before .before .before .before .before .before .before .before .before .before .before .before .before .before .before .before .before .before .before .before .before .before .before .before .before .scan-line .ensures) (c .before .before .before .before .before .before .before .before .before .before .before .before .before .before .before .before .before .before .before .before .before .before .before .before .n .given .1) (omega (arith, c .before .before .before .before .before .before .before .before .before .before .before .before .before .before .before .before .before .before .before .before .before .before .before .before .before .before .before .before .before .before .before .before .before .before .before .before .before .loop .inv .2)) (c .before .before .before .before .before .before .before .before .before .before .before .before .before .before .before .before .before .before .before .before .before .before .before .before .before .before .before .before .before .before .before .before .before .before .before .before .before .loop .inv .3) .0) in arm-defined a f w g _ (c .before .before .before .before .before .before .before .before .before .before .before .before .before .before .before .before .before .control-line .ensures) (c .before .before .before .before .before .before .before .before .before .before .before .before .before .before .before .from .given .1) (c .before .before .before .before .before .before .read-define .ensures) (c .before .before .before .before .place .given .1) (c .define .ensures))
 
 enum-known-from-2 : tie.Need-enum-known-from-2 Inv-loop μ-loop
 enum-known-from-2 c = search needs
@@ -159,26 +169,27 @@ slice-aggregate-global c = omega arith
 global-requires : tie.Need-global-requires Inv-loop μ-loop
 global-requires c κs = search needs
 
-enum-known-outcome-2 : tie.Need-enum-known-outcome-2 Inv-loop μ-loop
-enum-known-outcome-2 c = search needs
+enum-known-outcome : tie.Need-enum-known-outcome Inv-loop μ-loop
+enum-known-outcome c = search needs
 
 returns-5 : tie.Need-returns-5 Inv-loop μ-loop
 returns-5 c = λ q a.
-    let w = (rw (c .before .before .before .before .before .before .before .before .before .before .before .before .before .before .before .before .before .before .before .before .before .before .before .before .before .end .given .1) at (c .before .before .before .before .before .before .before .before .before .before .before .before .before .before .before .before .before .before .before .before .before .before .before .before .before .before .before .control-end .ensures)) in
-    let f = c .before .before .before .before .before .before .before .before .before .before .before .before .before .before .before .before .before .before .before .before .before .before .before .before .before .before .before .before .before .loop .inv .4 q a in
-    let g = (scans-good (c .before .before .before .before .before .before .before .before .before .before .before .before .before .before .before .before .before .before .before .scan-line .ensures) (c .before .before .before .before .before .before .before .before .before .before .before .before .before .before .before .before .n .given .1) (omega (arith, c .before .before .before .before .before .before .before .before .before .before .before .before .before .before .before .before .before .before .before .before .before .before .before .before .before .before .before .before .before .loop .inv .2)) (c .before .before .before .before .before .before .before .before .before .before .before .before .before .before .before .before .before .before .before .before .before .before .before .before .before .before .before .before .before .loop .inv .3) .0) in
-    ap (settled _) (sym (arm-global-fault a f w g _ (c .before .before .before .before .before .before .before .before .before .control-line .ensures) (c .before .before .before .before .before .before .before .from2 .given .1) (c .before .before .before .global .ensures) (c .before .outcome2 .given .1)))
+    let w = (rw (c .before .before .before .before .before .before .before .before .before .before .before .before .before .before .before .before .before .before .before .before .before .before .before .before .before .before .before .before .end .given .1) at (c .before .before .before .before .before .before .before .before .before .before .before .before .before .before .before .before .before .before .before .before .before .before .before .before .before .before .before .before .before .before .control-end .ensures)) in
+    let f = c .before .before .before .before .before .before .before .before .before .before .before .before .before .before .before .before .before .before .before .before .before .before .before .before .before .before .before .before .before .before .before .before .loop .inv .4 q a in
+    let g = (scans-good (c .before .before .before .before .before .before .before .before .before .before .before .before .before .before .before .before .before .before .before .before .before .before .scan-line .ensures) (c .before .before .before .before .before .before .before .before .before .before .before .before .before .before .before .before .before .before .before .n .given .1) (omega (arith, c .before .before .before .before .before .before .before .before .before .before .before .before .before .before .before .before .before .before .before .before .before .before .before .before .before .before .before .before .before .before .before .before .loop .inv .2)) (c .before .before .before .before .before .before .before .before .before .before .before .before .before .before .before .before .before .before .before .before .before .before .before .before .before .before .before .before .before .before .before .before .loop .inv .3) .0) in
+    ap (settled _) (sym (arm-global-fault a f w g _ (c .before .before .before .before .before .before .before .before .before .before .before .before .control-line .ensures) (c .before .before .before .before .before .before .before .before .before .before .from2 .given .1) (c .before .before .before .global .ensures) (c .before .outcome .given .1)))
 
-enum-told-4 : tie.Need-enum-told-4 Inv-loop μ-loop
-enum-told-4 c = search needs
+enum-told-3 : tie.Need-enum-told-3 Inv-loop μ-loop
+enum-told-3 c = search needs
 
 loop-less-4 : tie.Need-loop-less-4 Inv-loop μ-loop
-loop-less-4 c = let w = (rw (c .before .before .before .before .before .before .before .before .before .before .before .before .before .before .before .before .before .before .before .before .before .before .before .before .before .end .given .1) at (c .before .before .before .before .before .before .before .before .before .before .before .before .before .before .before .before .before .before .before .before .before .before .before .before .before .before .before .control-end .ensures)) in omega (arith, w .low, w .high)
+loop-less-4 c = let w = (rw (c .before .before .before .before .before .before .before .before .before .before .before .before .before .before .before .before .before .before .before .before .before .before .before .before .before .before .before .before .end .given .1) at (c .before .before .before .before .before .before .before .before .before .before .before .before .before .before .before .before .before .before .before .before .before .before .before .before .before .before .before .before .before .before .control-end .ensures)) in omega (arith, w .low, w .high)
 
 loop-again-4 : tie.Need-loop-again-4 Inv-loop μ-loop
 loop-again-4 c =
-    let w = (rw (c .before .before .before .before .before .before .before .before .before .before .before .before .before .before .before .before .before .before .before .before .before .before .before .before .before .end .given .1) at (c .before .before .before .before .before .before .before .before .before .before .before .before .before .before .before .before .before .before .before .before .before .before .before .before .before .before .before .control-end .ensures)) in let l = c .before .before .before .before .before .before .before .before .before .before .before .before .before .before .before .before .before .before .before .before .before .before .before .before .before .before .before .before .before .loop in
-    (w .high, omega (arith, w .few, l .inv .1), scans-length (c .before .before .before .before .before .before .before .before .before .before .before .before .before .before .before .before .before .before .before .scan-line .ensures) ∙ c .before .before .before .before .before .before .before .before .before .before .before .before .before .before .before .before .before .before .before .before .before .before .before .before .before .before .before .before .before .loop .inv .2, ends-kept (c .before .before .before .before .before .before .before .before .before .before .before .before .before .before .before .before .before .before .before .scan-line .ensures) ∙ c .before .before .before .before .before .before .before .before .before .before .before .before .before .before .before .before .before .before .before .before .before .before .before .before .before .before .before .before .before .loop .inv .3, λ q a. let f = l .inv .4 q a in let g = (scans-good (c .before .before .before .before .before .before .before .before .before .before .before .before .before .before .before .before .before .before .before .scan-line .ensures) (c .before .before .before .before .before .before .before .before .before .before .before .before .before .before .before .before .n .given .1) (omega (arith, c .before .before .before .before .before .before .before .before .before .before .before .before .before .before .before .before .before .before .before .before .before .before .before .before .before .before .before .before .before .loop .inv .2)) (c .before .before .before .before .before .before .before .before .before .before .before .before .before .before .before .before .before .before .before .before .before .before .before .before .before .before .before .before .before .loop .inv .3) .0) in arm-set a f w g _ (c .before .before .before .before .before .before .before .before .before .control-line .ensures) (c .before .before .before .before .before .before .before .from2 .given .1) (c .before .before .before .global .ensures) (c .before .enum-told4 .given .1))
+    let w = (rw (c .before .before .before .before .before .before .before .before .before .before .before .before .before .before .before .before .before .before .before .before .before .before .before .before .before .before .before .before .end .given .1) at (c .before .before .before .before .before .before .before .before .before .before .before .before .before .before .before .before .before .before .before .before .before .before .before .before .before .before .before .before .before .before .control-end .ensures)) in
+    let l = c .before .before .before .before .before .before .before .before .before .before .before .before .before .before .before .before .before .before .before .before .before .before .before .before .before .before .before .before .before .before .before .before .loop in
+    (w .high, omega (arith, w .few, l .inv .1), scans-length (c .before .before .before .before .before .before .before .before .before .before .before .before .before .before .before .before .before .before .before .before .before .before .scan-line .ensures) ∙ l .inv .2, ends-kept (c .before .before .before .before .before .before .before .before .before .before .before .before .before .before .before .before .before .before .before .before .before .before .scan-line .ensures) ∙ l .inv .3, λ q a. let f = l .inv .4 q a in let g = (scans-good (c .before .before .before .before .before .before .before .before .before .before .before .before .before .before .before .before .before .before .before .before .before .before .scan-line .ensures) (c .before .before .before .before .before .before .before .before .before .before .before .before .before .before .before .before .before .before .before .n .given .1) (omega (arith, c .before .before .before .before .before .before .before .before .before .before .before .before .before .before .before .before .before .before .before .before .before .before .before .before .before .before .before .before .before .before .before .before .loop .inv .2)) (c .before .before .before .before .before .before .before .before .before .before .before .before .before .before .before .before .before .before .before .before .before .before .before .before .before .before .before .before .before .before .before .before .loop .inv .3) .0) in arm-set a f w g _ (c .before .before .before .before .before .before .before .before .before .before .before .before .control-line .ensures) (c .before .before .before .before .before .before .before .before .before .before .from2 .given .1) (c .before .before .before .global .ensures) (c .before .enum-told3 .given .1))
 
 enum-known-from-3 : tie.Need-enum-known-from-3 Inv-loop μ-loop
 enum-known-from-3 c = search needs
@@ -189,26 +200,27 @@ slice-aggregate-read-entry c = omega arith
 read-entry-requires : tie.Need-read-entry-requires Inv-loop μ-loop
 read-entry-requires c κs = search needs
 
-enum-known-cause-3 : tie.Need-enum-known-cause-3 Inv-loop μ-loop
-enum-known-cause-3 c = search needs
+enum-known-cause-4 : tie.Need-enum-known-cause-4 Inv-loop μ-loop
+enum-known-cause-4 c = search needs
 
 returns-6 : tie.Need-returns-6 Inv-loop μ-loop
 returns-6 c = λ q a.
     let w = (rw (c .before .before .before .before .before .before .before .before .before .before .before .before .before .before .before .before .before .before .before .before .before .before .before .before .before .before .before .before .before .before .end .given .1) at (c .before .before .before .before .before .before .before .before .before .before .before .before .before .before .before .before .before .before .before .before .before .before .before .before .before .before .before .before .before .before .before .before .control-end .ensures)) in
     let f = c .before .before .before .before .before .before .before .before .before .before .before .before .before .before .before .before .before .before .before .before .before .before .before .before .before .before .before .before .before .before .before .before .before .before .loop .inv .4 q a in
     let g = (scans-good (c .before .before .before .before .before .before .before .before .before .before .before .before .before .before .before .before .before .before .before .before .before .before .before .before .scan-line .ensures) (c .before .before .before .before .before .before .before .before .before .before .before .before .before .before .before .before .before .before .before .before .before .n .given .1) (omega (arith, c .before .before .before .before .before .before .before .before .before .before .before .before .before .before .before .before .before .before .before .before .before .before .before .before .before .before .before .before .before .before .before .before .before .before .loop .inv .2)) (c .before .before .before .before .before .before .before .before .before .before .before .before .before .before .before .before .before .before .before .before .before .before .before .before .before .before .before .before .before .before .before .before .before .before .loop .inv .3) .0) in
-    ap (settled _) (sym (arm-entry-fault a f w g _ (c .before .before .before .before .before .before .before .before .before .before .before .before .before .before .control-line .ensures) (c .before .before .before .before .before .before .before .before .before .before .before .before .from3 .given .1) (c .before .before .before .read-entry .ensures) (c .before .cause3 .given .1)))
+    ap (settled _) (sym (arm-entry-fault a f w g _ (c .before .before .before .before .before .before .before .before .before .before .before .before .before .before .control-line .ensures) (c .before .before .before .before .before .before .before .before .before .before .before .before .from3 .given .1) (c .before .before .before .read-entry .ensures) (c .before .cause4 .given .1)))
 
-enum-told-5 : tie.Need-enum-told-5 Inv-loop μ-loop
-enum-told-5 c = search needs
+enum-told-4 : tie.Need-enum-told-4 Inv-loop μ-loop
+enum-told-4 c = search needs
 
 loop-less-5 : tie.Need-loop-less-5 Inv-loop μ-loop
 loop-less-5 c = let w = (rw (c .before .before .before .before .before .before .before .before .before .before .before .before .before .before .before .before .before .before .before .before .before .before .before .before .before .before .before .before .before .end .given .1) at (c .before .before .before .before .before .before .before .before .before .before .before .before .before .before .before .before .before .before .before .before .before .before .before .before .before .before .before .before .before .before .before .control-end .ensures)) in omega (arith, w .low, w .high)
 
 loop-again-5 : tie.Need-loop-again-5 Inv-loop μ-loop
 loop-again-5 c =
-    let w = (rw (c .before .before .before .before .before .before .before .before .before .before .before .before .before .before .before .before .before .before .before .before .before .before .before .before .before .before .before .before .before .end .given .1) at (c .before .before .before .before .before .before .before .before .before .before .before .before .before .before .before .before .before .before .before .before .before .before .before .before .before .before .before .before .before .before .before .control-end .ensures)) in let l = c .before .before .before .before .before .before .before .before .before .before .before .before .before .before .before .before .before .before .before .before .before .before .before .before .before .before .before .before .before .before .before .before .before .loop in
-    (w .high, omega (arith, w .few, l .inv .1), scans-length (c .before .before .before .before .before .before .before .before .before .before .before .before .before .before .before .before .before .before .before .before .before .before .before .scan-line .ensures) ∙ c .before .before .before .before .before .before .before .before .before .before .before .before .before .before .before .before .before .before .before .before .before .before .before .before .before .before .before .before .before .before .before .before .before .loop .inv .2, ends-kept (c .before .before .before .before .before .before .before .before .before .before .before .before .before .before .before .before .before .before .before .before .before .before .before .scan-line .ensures) ∙ c .before .before .before .before .before .before .before .before .before .before .before .before .before .before .before .before .before .before .before .before .before .before .before .before .before .before .before .before .before .before .before .before .before .loop .inv .3, λ q a. let f = l .inv .4 q a in let g = (scans-good (c .before .before .before .before .before .before .before .before .before .before .before .before .before .before .before .before .before .before .before .before .before .before .before .scan-line .ensures) (c .before .before .before .before .before .before .before .before .before .before .before .before .before .before .before .before .before .before .before .before .n .given .1) (omega (arith, c .before .before .before .before .before .before .before .before .before .before .before .before .before .before .before .before .before .before .before .before .before .before .before .before .before .before .before .before .before .before .before .before .before .loop .inv .2)) (c .before .before .before .before .before .before .before .before .before .before .before .before .before .before .before .before .before .before .before .before .before .before .before .before .before .before .before .before .before .before .before .before .before .loop .inv .3) .0) in arm-passed a f w g _ (c .before .before .before .before .before .before .before .before .before .before .before .before .before .control-line .ensures) (c .before .before .before .before .before .before .before .before .before .before .before .from3 .given .1) (c .before .before .read-entry .ensures) (c .enum-told5 .given .1))
+    let w = (rw (c .before .before .before .before .before .before .before .before .before .before .before .before .before .before .before .before .before .before .before .before .before .before .before .before .before .before .before .before .before .end .given .1) at (c .before .before .before .before .before .before .before .before .before .before .before .before .before .before .before .before .before .before .before .before .before .before .before .before .before .before .before .before .before .before .before .control-end .ensures)) in
+    let l = c .before .before .before .before .before .before .before .before .before .before .before .before .before .before .before .before .before .before .before .before .before .before .before .before .before .before .before .before .before .before .before .before .before .loop in
+    (w .high, omega (arith, w .few, l .inv .1), scans-length (c .before .before .before .before .before .before .before .before .before .before .before .before .before .before .before .before .before .before .before .before .before .before .before .scan-line .ensures) ∙ l .inv .2, ends-kept (c .before .before .before .before .before .before .before .before .before .before .before .before .before .before .before .before .before .before .before .before .before .before .before .scan-line .ensures) ∙ l .inv .3, λ q a. let f = l .inv .4 q a in let g = (scans-good (c .before .before .before .before .before .before .before .before .before .before .before .before .before .before .before .before .before .before .before .before .before .before .before .scan-line .ensures) (c .before .before .before .before .before .before .before .before .before .before .before .before .before .before .before .before .before .before .before .before .n .given .1) (omega (arith, c .before .before .before .before .before .before .before .before .before .before .before .before .before .before .before .before .before .before .before .before .before .before .before .before .before .before .before .before .before .before .before .before .before .loop .inv .2)) (c .before .before .before .before .before .before .before .before .before .before .before .before .before .before .before .before .before .before .before .before .before .before .before .before .before .before .before .before .before .before .before .before .before .loop .inv .3) .0) in arm-passed a f w g _ (c .before .before .before .before .before .before .before .before .before .before .before .before .before .control-line .ensures) (c .before .before .before .before .before .before .before .before .before .before .before .from3 .given .1) (c .before .before .read-entry .ensures) (c .enum-told4 .given .1))
 
 enum-known-index : tie.Need-enum-known-index Inv-loop μ-loop
 enum-known-index c = search needs
@@ -224,11 +236,12 @@ loop-less-6 c = let w = (rw (c .before .before .before .before .before .before .
 
 loop-again-6 : tie.Need-loop-again-6 Inv-loop μ-loop
 loop-again-6 c =
-    let w = (rw (c .before .before .before .before .before .before .before .before .before .before .before .before .before .before .before .before .before .before .before .before .before .before .before .before .before .before .before .before .before .before .before .before .before .before .before .before .before .before .before .before .before .end .given .1) at (c .before .before .before .before .before .before .before .before .before .before .before .before .before .before .before .before .before .before .before .before .before .before .before .before .before .before .before .before .before .before .before .before .before .before .before .before .before .before .before .before .before .before .before .control-end .ensures)) in let l = c .before .before .before .before .before .before .before .before .before .before .before .before .before .before .before .before .before .before .before .before .before .before .before .before .before .before .before .before .before .before .before .before .before .before .before .before .before .before .before .before .before .before .before .before .before .loop in
-    (w .high, omega (arith, w .few, l .inv .1), scans-length (c .before .before .before .before .before .before .before .before .before .before .before .before .before .before .before .before .before .before .before .before .before .before .before .before .before .before .before .before .before .before .before .before .before .before .before .scan-line .ensures) ∙ c .before .before .before .before .before .before .before .before .before .before .before .before .before .before .before .before .before .before .before .before .before .before .before .before .before .before .before .before .before .before .before .before .before .before .before .before .before .before .before .before .before .before .before .before .before .loop .inv .2, ends-kept (c .before .before .before .before .before .before .before .before .before .before .before .before .before .before .before .before .before .before .before .before .before .before .before .before .before .before .before .before .before .before .before .before .before .before .before .scan-line .ensures) ∙ c .before .before .before .before .before .before .before .before .before .before .before .before .before .before .before .before .before .before .before .before .before .before .before .before .before .before .before .before .before .before .before .before .before .before .before .before .before .before .before .before .before .before .before .before .before .loop .inv .3, λ q a. let f = l .inv .4 q a in let g = (scans-good (c .before .before .before .before .before .before .before .before .before .before .before .before .before .before .before .before .before .before .before .before .before .before .before .before .before .before .before .before .before .before .before .before .before .before .before .scan-line .ensures) (c .before .before .before .before .before .before .before .before .before .before .before .before .before .before .before .before .before .before .before .before .before .before .before .before .before .before .before .before .before .before .before .before .n .given .1) (omega (arith, c .before .before .before .before .before .before .before .before .before .before .before .before .before .before .before .before .before .before .before .before .before .before .before .before .before .before .before .before .before .before .before .before .before .before .before .before .before .before .before .before .before .before .before .before .before .loop .inv .2)) (c .before .before .before .before .before .before .before .before .before .before .before .before .before .before .before .before .before .before .before .before .before .before .before .before .before .before .before .before .before .before .before .before .before .before .before .before .before .before .before .before .before .before .before .before .before .loop .inv .3) .0) in arm-decided a f w g _ (c .before .before .before .before .before .before .before .before .before .before .before .before .before .before .before .before .before .before .before .before .before .before .before .before .before .control-line .ensures) (c .before .before .before .before .before .before .before .before .before .before .before .before .before .before .before .before .before .before .before .before .before .before .before .from3 .given .1) (c .before .before .before .before .before .before .before .before .before .before .before .before .before .before .read-entry .ensures) (c .before .before .before .before .before .before .before .before .before .before .before .before .index .given .1) (c .before .decide .ensures))
+    let w = (rw (c .before .before .before .before .before .before .before .before .before .before .before .before .before .before .before .before .before .before .before .before .before .before .before .before .before .before .before .before .before .before .before .before .before .before .before .before .before .before .before .before .before .end .given .1) at (c .before .before .before .before .before .before .before .before .before .before .before .before .before .before .before .before .before .before .before .before .before .before .before .before .before .before .before .before .before .before .before .before .before .before .before .before .before .before .before .before .before .before .before .control-end .ensures)) in
+    let l = c .before .before .before .before .before .before .before .before .before .before .before .before .before .before .before .before .before .before .before .before .before .before .before .before .before .before .before .before .before .before .before .before .before .before .before .before .before .before .before .before .before .before .before .before .before .loop in
+    (w .high, omega (arith, w .few, l .inv .1), scans-length (c .before .before .before .before .before .before .before .before .before .before .before .before .before .before .before .before .before .before .before .before .before .before .before .before .before .before .before .before .before .before .before .before .before .before .before .scan-line .ensures) ∙ l .inv .2, ends-kept (c .before .before .before .before .before .before .before .before .before .before .before .before .before .before .before .before .before .before .before .before .before .before .before .before .before .before .before .before .before .before .before .before .before .before .before .scan-line .ensures) ∙ l .inv .3, λ q a. let f = l .inv .4 q a in let g = (scans-good (c .before .before .before .before .before .before .before .before .before .before .before .before .before .before .before .before .before .before .before .before .before .before .before .before .before .before .before .before .before .before .before .before .before .before .before .scan-line .ensures) (c .before .before .before .before .before .before .before .before .before .before .before .before .before .before .before .before .before .before .before .before .before .before .before .before .before .before .before .before .before .before .before .before .n .given .1) (omega (arith, c .before .before .before .before .before .before .before .before .before .before .before .before .before .before .before .before .before .before .before .before .before .before .before .before .before .before .before .before .before .before .before .before .before .before .before .before .before .before .before .before .before .before .before .before .before .loop .inv .2)) (c .before .before .before .before .before .before .before .before .before .before .before .before .before .before .before .before .before .before .before .before .before .before .before .before .before .before .before .before .before .before .before .before .before .before .before .before .before .before .before .before .before .before .before .before .before .loop .inv .3) .0) in arm-decided a f w g _ (c .before .before .before .before .before .before .before .before .before .before .before .before .before .before .before .before .before .before .before .before .before .before .before .before .before .control-line .ensures) (c .before .before .before .before .before .before .before .before .before .before .before .before .before .before .before .before .before .before .before .before .before .before .before .from3 .given .1) (c .before .before .before .before .before .before .before .before .before .before .before .before .before .before .read-entry .ensures) (c .before .before .before .before .before .before .before .before .before .before .before .before .index .given .1) (c .before .decide .ensures))
 
 settle-requires : tie.Need-settle-requires Inv-loop μ-loop
-settle-requires c κs = c .before .before .before .before .before .before .before .before .before .before .before .before .before .pre .0
+settle-requires c κs = c .before .before .before .before .before .before .before .before .before .before .before .before .before .before .pre .0
 
 same-length : tie.Need-same-length Inv-loop μ-loop
 same-length c = omega arith
@@ -244,6 +257,7 @@ read-table-spec =
     μ-loop
     new-requires
     new-requires-2
+    new-requires-3
     loop-holds
     control-end-requires
     enum-known-end
@@ -270,27 +284,32 @@ read-table-spec =
     loop-less-2
     loop-again-2
     enum-known-from
-    slice-aggregate-define
-    define-requires
-    enum-known-outcome
+    slice-aggregate-read-define
+    read-define-requires
+    enum-known-cause-3
     returns-4
-    enum-told-3
+    enum-known-place
+    array-share-prefix-name
+    slice-aggregate-define
+    array-share-prefix-value
+    slice-aggregate-define-2
+    define-requires
     loop-less-3
     loop-again-3
     enum-known-from-2
     slice-aggregate-global
     global-requires
-    enum-known-outcome-2
+    enum-known-outcome
     returns-5
-    enum-told-4
+    enum-told-3
     loop-less-4
     loop-again-4
     enum-known-from-3
     slice-aggregate-read-entry
     read-entry-requires
-    enum-known-cause-3
+    enum-known-cause-4
     returns-6
-    enum-told-5
+    enum-told-4
     loop-less-5
     loop-again-5
     enum-known-index

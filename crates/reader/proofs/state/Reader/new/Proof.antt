@@ -10,12 +10,9 @@ new-requires c κs = search needs
 new-requires-2 : tie.Need-new-requires-2
 new-requires-2 c κs = search needs
 
-new-requires-3 : tie.Need-new-requires-3
-new-requires-3 c κs = search needs
-
 returns : tie.Need-returns
 unfolding start
-returns c = λ xs. record { variables = c .before .before .new .ensures .0; within = c .before .before .new .ensures .1; options = c .before .new2 .ensures; failures = c .new3 .ensures xs; shell = refl }
+returns c = λ xs. record { options = c .before .new .ensures; failures = c .new2 .ensures xs; shell = refl }
 
 pub new-spec : {M : Type 1} → statement M
-new-spec = tie.close (tie.spec new-requires new-requires-2 new-requires-3 returns)
+new-spec = tie.close (tie.spec new-requires new-requires-2 returns)
