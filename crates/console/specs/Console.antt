@@ -3,7 +3,8 @@ use mathlib.Core.List.{List}
 use mathlib.Core.Option.{Option, none, some}
 use Prim.Native.Nat.{ℕ}
 use lib.ListN.{replicate}
-use Rattle.answer.specs.Answer.{leastBuffer, Told, told, atPlace, toldBy}
+use Rattle.answer.specs.declared.Answer.the-variants.{MalformedQuestion}
+use Rattle.answer.specs.Answer.{leastBuffer, Outcome, result, Told, told, atPlace, toldBy}
 use Rattle.answer.specs.Meaning.{Asked, answerOf}
 use Rattle.console.specs.QuestionLine.{askedIn}
 use Rattle.console.specs.Printed.{printed}
@@ -12,6 +13,11 @@ use Rattle.console.specs.Printed.{printed}
 abbrev pub toldFor : List ℕ → Option Asked → Told
 toldFor table none = told 10 (atPlace 0)
 toldFor table (some asked) = toldBy (answerOf table asked (replicate leastBuffer 0))
+
+-- the outcome for what a line asks, with this in the buffer beforehand: a line not of this form is 10
+abbrev pub outcomeFor : List ℕ → Option Asked → List ℕ → Outcome
+outcomeFor table none b = result MalformedQuestion b
+outcomeFor table (some asked) b = answerOf table asked b
 
 -- what is printed for a line without its newline
 unfoldable pub response : List ℕ → List ℕ → List ℕ

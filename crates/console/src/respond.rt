@@ -6,10 +6,9 @@ use answer::Answer;
 use answer::call::answer;
 use text::buffer::Filled;
 ghost use mathlib.Core.Path.{_≡_};
-ghost use lib.ListN.{replicate};
-ghost use Rattle.answer.specs.Answer.{leastBuffer, toldOf};
+ghost use Rattle.answer.specs.Answer.{result};
 ghost use Rattle.console.specs.QuestionLine.{askedIn};
-ghost use Rattle.console.specs.Console.{toldFor};
+ghost use Rattle.console.specs.Console.{outcomeFor};
 ghost use Rattle.console.specs.Respond.{Responds};
 
 // How a response was written.
@@ -25,10 +24,9 @@ impl Response {
     pub const BUFFER: usize = 2048;
 }
 
-// The answer to a question line, with its strings in a new buffer.
-fn answer_line(table: &[u8], line: &[u8], buffer: &mut [u8]) -> Answer
-    requires { ⌜ now buffer ≡ replicate leastBuffer 0 ⌝ }
-    ensures { λ r. ⌜ toldOf r (now (buffer .exit)) ≡ toldFor (now (table .entry)) (askedIn (now (line .entry))) ⌝ }
+// The answer to a question line, with its strings in the lent buffer.
+pub fn answer_line(table: &[u8], line: &[u8], buffer: &mut [u8]) -> Answer
+    ensures { λ r. ⌜ result r (now (buffer .exit)) ≡ outcomeFor (now (table .entry)) (askedIn (now (line .entry))) (now (buffer .entry)) ⌝ }
 {
     let mut scratch = [0u8; QuestionLine::BYTES];
     let QuestionLine::Asks(pieces) = read_question_line(line, &mut scratch) else {

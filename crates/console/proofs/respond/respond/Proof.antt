@@ -1,5 +1,6 @@
+use Rattle.console.specs.QuestionLine.{askedIn}
 use borrow.Author.Needs.{needs}
-use Rattle.console.proofs.RespondLaws.{response-fits, responded}
+use Rattle.console.proofs.RespondLaws.{told-for, response-fits, responded}
 use Rattle.console.proofs.respond.respond.Statement.{statement}
 use Rattle.console.proofs.respond.respond.Tie as tie
 
@@ -28,13 +29,13 @@ same-length : tie.Need-same-length
 same-length c = search needs
 
 returns-2 : tie.Need-returns-2
-returns-2 c = absurd (response-fits (c .before .before .before .before .before .before .before .before .before .before .before .before .before .before .args .table .now) (c .before .before .before .before .before .before .before .before .before .before .before .before .before .before .args .line .now) (c .before .before .before .before .put-answer .ensures) (c .before .before .before .before .before .before .before .before .answer-line .ensures) (c .before .before .before .before .before .before .before .before .before .before .if1 .left) (c .enum-told .given .1))
+returns-2 c = absurd (response-fits (c .before .before .before .before .before .before .before .before .before .before .before .before .before .before .args .table .now) (c .before .before .before .before .before .before .before .before .before .before .before .before .before .before .args .line .now) (c .before .before .before .before .put-answer .ensures) (told-for (c .before .before .before .before .before .before .before .before .before .before .before .before .before .before .args .table .now) (askedIn (c .before .before .before .before .before .before .before .before .before .before .before .before .before .before .args .line .now)) (c .before .before .before .before .before .before .before .before .answer-line .ensures)) (c .before .before .before .before .before .before .before .before .before .before .if1 .left) (c .enum-told .given .1))
 
 same-length-2 : tie.Need-same-length-2
 same-length-2 c = search needs
 
 returns-3 : tie.Need-returns-3
-returns-3 c = responded (c .before .before .before .before .before .before .before .before .before .before .before .before .before .before .before .args .table .now) (c .before .before .before .before .before .before .before .before .before .before .before .before .before .before .before .args .line .now) (c .before .before .before .before .before .put-answer .ensures) (c .before .before .before .before .before .before .before .before .before .answer-line .ensures) (c .before .before .before .before .before .before .before .before .before .before .before .if1 .left) (c .before .n .given .1)
+returns-3 c = responded (c .before .before .before .before .before .before .before .before .before .before .before .before .before .before .before .args .table .now) (c .before .before .before .before .before .before .before .before .before .before .before .before .before .before .before .args .line .now) (c .before .before .before .before .before .put-answer .ensures) (told-for (c .before .before .before .before .before .before .before .before .before .before .before .before .before .before .before .args .table .now) (askedIn (c .before .before .before .before .before .before .before .before .before .before .before .before .before .before .before .args .line .now)) (c .before .before .before .before .before .before .before .before .before .answer-line .ensures)) (c .before .before .before .before .before .before .before .before .before .before .before .if1 .left) (c .before .n .given .1)
 
 pub respond-spec : {M : Type 1} → statement M
 respond-spec =
