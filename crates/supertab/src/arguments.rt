@@ -1,0 +1,137 @@
+// What the arguments ask for.
+use text::slice::equal;
+ghost use Rattle.io.specs.Counts.{Counts};
+
+pub enum Request {
+    // To answer questions from the table that this argument names.
+    Answer(usize),
+    // To check the table that this argument names.
+    Check(usize),
+    // The same, with the question in the argument behind it.
+    CheckWith(usize),
+    Help,
+    Version,
+    // Wrong uses, the last two with the argument that is wrong.
+    NoTable,
+    TableFromInput,
+    UnknownOption(usize),
+    Surplus(usize),
+}
+
+// What an argument is where an option may stand.
+enum Word {
+    Check,
+    Help,
+    Version,
+    // `--`
+    EndOfOptions,
+    // `-`
+    Dash,
+    OtherOption,
+    Operand,
+    Missing,
+}
+
+// The word of an option, or of an operand, which does not begin with `-`.
+fn word_of(text: &[u8]) -> Word {
+    if text.len() == 0 {
+        return Word::Operand;
+    }
+    if text[0] != b'-' {
+        return Word::Operand;
+    }
+    if equal(text, b"-") {
+        return Word::Dash;
+    }
+    if equal(text, b"--") {
+        return Word::EndOfOptions;
+    }
+    if equal(text, b"--check") {
+        return Word::Check;
+    }
+    if equal(text, b"--help") {
+        return Word::Help;
+    }
+    if equal(text, b"--version") {
+        return Word::Version;
+    }
+    Word::OtherOption
+}
+
+// Of an argument that is longer than all options only the first byte is looked at.
+fn word_at(i: usize) -> Word {
+    let mut text = [0u8; 16];
+    let n = os::arg(i, &mut text);
+    let error = os::errno();
+    if error == 0 {
+        return word_of(&text[..n]);
+    }
+    if error == libc::EINVAL {
+        return Word::Missing;
+    }
+    if text[0] == b'-' {
+        return Word::OtherOption;
+    }
+    Word::Operand
+}
+
+// The request, where no argument stands behind this one.
+fn last(i: usize, request: Request) -> Request {
+    let count = os::arg_count();
+    if count > i {
+        if count - i > 1 {
+            return Request::Surplus(i + 1);
+        }
+        return request;
+    }
+    Request::NoTable
+}
+
+// A check of the table that this argument names, perhaps with a question behind it.
+fn check_at(i: usize) -> Request {
+    let count = os::arg_count();
+    if count > i {
+        match count - i {
+            1 => Request::Check(i),
+            2 => Request::CheckWith(i),
+            _ => Request::Surplus(i + 2),
+        }
+    } else {
+        Request::NoTable
+    }
+}
+
+// What stands behind --check.
+fn check_request() -> Request {
+    match word_at(2) {
+        Word::EndOfOptions => check_at(3),
+        Word::Dash => check_at(2),
+        Word::Operand => check_at(2),
+        Word::Missing => Request::NoTable,
+        _ => Request::UnknownOption(2),
+    }
+}
+
+pub fn requested() -> Request {
+    match word_at(1) {
+        Word::Check => check_request(),
+        Word::Help => last(1, Request::Help),
+        Word::Version => last(1, Request::Version),
+        Word::EndOfOptions => last(2, Request::Answer(2)),
+        Word::Dash => Request::TableFromInput,
+        Word::OtherOption => Request::UnknownOption(1),
+        Word::Operand => last(1, Request::Answer(1)),
+        Word::Missing => Request::NoTable,
+    }
+}
+
+// The bytes of an argument; one that is longer fills the buffer.
+pub fn argument(i: usize, out: &mut [u8]) -> usize
+    ensures { λ r. ⌜ Counts r (now (out .exit)) ⌝ }
+{
+    let n = os::arg(i, out);
+    if os::errno() == libc::ENAMETOOLONG {
+        return out.len();
+    }
+    n
+}

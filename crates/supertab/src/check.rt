@@ -1,0 +1,97 @@
+// What --check prints.
+use super::arguments::argument;
+use super::input::Loaded;
+use super::message;
+use super::standard_output::print;
+use super::table::load_file;
+use super::table::load_from;
+use super::table::load_name;
+use super::table::table_buffer;
+use answer::Answer;
+use console::respond::answer_line;
+use explain::report::explain;
+use libc::STDIN_FILENO;
+use text::buffer::Filled;
+use text::slice::equal;
+ghost use mathlib.Core.Path.{_≡_};
+ghost use lib.ListN.{length};
+ghost use Rattle.supertab.specs.Input.{LoadedIn};
+
+// The longest report: a name, words, and a line of 32,768 bytes with a caret below its end.
+fn report_buffer() -> [u8; 81920]
+    ensures { λ r. ⌜ 81920 ≡ length r ⌝ }
+{
+    [0; 81920]
+}
+
+// One byte more than a question line may have.
+fn question_buffer() -> [u8; 32769]
+    ensures { λ r. ⌜ 32769 ≡ length r ⌝ }
+{
+    [0; 32769]
+}
+
+// Prints what was found in a table.
+fn print_report(name: &[u8], table: &[u8], answer: Answer) {
+    let mut out = report_buffer();
+    match explain(name, table, answer, &mut out) {
+        Filled::Done(n) => {
+            print(&out[..n]);
+        }
+        Filled::Full => message::tell(b"the report is too long"),
+    }
+}
+
+// Asks the table the question; one that is none is told.
+fn ask(name: &[u8], table: &[u8], line: &[u8]) {
+    let mut buffer = [0u8; Answer::BUFFER];
+    let answer = answer_line(table, line, &mut buffer);
+    match answer {
+        Answer::MalformedQuestion => {
+            message::tell(b"this is no question; write COMMAND USER GROUPS HOST MINUTE AGE ARGS")
+        }
+        _ => print_report(name, table, answer),
+    }
+}
+
+// The table of this name, `-` for standard input; a failure is told.
+fn load_named(name: &[u8], out: &mut [u8]) -> Loaded
+    ensures { λ r. ⌜ LoadedIn (now (out .exit)) r ⌝ }
+{
+    if equal(name, b"-") {
+        return load_from(STDIN_FILENO, b"standard input", out);
+    }
+    load_file(name, out)
+}
+
+// Asks the table of this name the question.
+fn ask_named(name: &[u8], line: &[u8]) {
+    let mut table = table_buffer();
+    let Loaded::Bytes(n) = load_named(name, &mut table) else {
+        return;
+    };
+    ask(name, &table[..n], line);
+}
+
+// Asks the table that an argument names the question.
+fn ask_at(i: usize, line: &[u8]) {
+    let mut name = io::buffer();
+    let Loaded::Bytes(n) = load_name(i, &mut name) else {
+        return;
+    };
+    ask_named(&name[..n], line);
+}
+
+// Checks the table that an argument names.
+pub fn check(i: usize) {
+    ask_at(i, b"check root - localhost 0 -");
+}
+
+// The same, with the question in the argument behind it.
+pub fn check_with(i: usize) {
+    let mut line = question_buffer();
+    if i < usize::MAX {
+        let n = argument(i + 1, &mut line);
+        ask_at(i, &line[..n]);
+    }
+}
