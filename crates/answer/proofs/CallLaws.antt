@@ -1,4 +1,4 @@
--- The whole call: each refusal in its order, then what the control lines give; and demand 3 of it.
+-- The whole call: the buffer, the question, then what the table gives; and demand 3 of it.
 use mathlib.Core.Path.{_≡_, sym, _∙_}
 use mathlib.Core.Bool.{Bool, true, false}
 use mathlib.Core.List.{List}
@@ -14,10 +14,9 @@ use Rattle.question.specs.declared.WeekMinute.{WeekMinute}
 use Rattle.question.specs.declared.LastAuthentication.{LastAuthentication}
 use Rattle.question.proofs.ZeroEnded.{strings-in}
 use Rattle.question.proofs.Told.{question-told, question-some, question-none, good-told}
-use Rattle.line.specs.Refused.{refusedByte}
-use Rattle.answer.specs.declared.Answer.the-variants.{MalformedQuestion, LongTable, RefusedByte, SmallBuffer}
+use Rattle.answer.specs.declared.Answer.the-variants.{MalformedQuestion, SmallBuffer}
 use Rattle.answer.specs.Answer.{Outcome, result}
-use Rattle.answer.specs.Meaning.{Asked, asks, settled, linesGive, answerOf}
+use Rattle.answer.specs.Meaning.{Asked, asks, readTable, answerOf}
 use Rattle.answer.specs.Contract.{asking, WholeOf, CutOf, AskedWith}
 use Rattle.answer.proofs.CutLaws.{promised}
 
@@ -55,19 +54,9 @@ module _ (t : List ℕ) (a : Asked) (b : List ℕ) where
     unfolding answerOf
     call-malformed h = all-promised (rw (le-leb 2048 (length b) r, h))
 
-    module _ {q : Question} (g : asks a ≡ some q) where
-      pub call-long : 32768 < length t → Promised t a b (result LongTable b)
-      unfolding answerOf
-      call-long h = all-promised (rw (le-leb 2048 (length b) r, g, lt-leb (length t) 32768 h))
-
-      module _ (s : length t ≤ 32768) where
-        pub call-refused : {p : ℕ} → some p ≡ refusedByte t → Promised t a b (result (RefusedByte p) b)
-        unfolding answerOf
-        call-refused h = all-promised (rw (le-leb 2048 (length b) r, g, le-leb (length t) 32768 s, ← h))
-
-        pub call-read : none ≡ refusedByte t → {o : Outcome} → o ≡ settled b (linesGive q t) → Promised t a b o
-        unfolding answerOf
-        call-read h e = all-promised (e ∙ rw (le-leb 2048 (length b) r, g, le-leb (length t) 32768 s, ← h))
+    pub call-read : {q : Question} → asks a ≡ some q → {o : Outcome} → o ≡ readTable t b (some q) → Promised t a b o
+    unfolding answerOf
+    call-read g e = all-promised (e ∙ rw (le-leb 2048 (length b) r, g))
 
 -- whether the check of the question passed
 module _ (command user groups host : List ℕ) (minute : WeekMinute) (last : LastAuthentication) (args : List ℕ) where

@@ -11,7 +11,7 @@ use Rattle.text.specs.Contract.{Wrote}
 use Rattle.text.specs.declared.buffer.Filled.{Filled}
 use Rattle.text.specs.declared.buffer.Filled.the-variants.{Done, Full}
 use Rattle.text.proofs.Laws.{clash}
-use Rattle.text.proofs.Buffers.{laid-append, wrote-done, wrote-length, up-full}
+use Rattle.text.proofs.Buffers.{laid-length, laid-append, wrote-done, wrote-length, up-full}
 use Rattle.options.specs.Options.{Options, idOr, authOr}
 use Rattle.options.specs.Contract.{idIn, timeoutIn, spanIn}
 use Rattle.options.specs.declared.timeout.Timeout.{Timeout}
@@ -49,6 +49,10 @@ put-ended {old} {mid} {new} {n} {m} {k} {xs} w e v f =
 
 pub end-full : {old mid new : List ℕ} {n m : ℕ} {xs : List ℕ} {r q : Filled} {A : Type 0} → Wrote old mid n xs r → r ≡ Done m → Wrote mid new m (0 ∷ []) q → q ≡ Full → n + length xs < length old → A
 end-full {old} {mid} {new} {n} {m} w e v f h = let d = wrote-done w e in let k = wrote-length w in put-full v f (omega (arith, d .1, k))
+
+-- the buffer keeps its length
+pub puts-length : {old new : List ℕ} {n : ℕ} {xs : List ℕ} {r : ℕ} → Puts old new n xs r → length new ≡ length old
+puts-length {old} {new} {n} {xs} p = rw (p .bytes) (laid-length old n (ended xs))
 
 -- five strings, one behind the other
 module _ (old : List ℕ) where

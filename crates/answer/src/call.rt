@@ -1,11 +1,9 @@
-// The whole call: refusals in their order, then the control lines, then the decision.
+// The whole call: the buffer, the question, then the table.
 use super::Answer;
 use super::table::read_table;
-use line::refused::refused_byte;
 use question::LastAuthentication;
 use question::WeekMinute;
 use question::form::question_is_good;
-use text::slice::Found;
 ghost use mathlib.Core.Path.{_≡_};
 ghost use Rattle.answer.specs.Answer.{result};
 ghost use Rattle.answer.specs.Meaning.{answerOf};
@@ -32,21 +30,15 @@ pub fn answer(
     if !question_is_good(command, user, groups, host, minute, args) {
         return Answer::MalformedQuestion;
     }
-    if table.len() > Answer::TABLE {
-        return Answer::LongTable;
-    }
-    match refused_byte(table) {
-        Found::At(place) => Answer::RefusedByte(place),
-        Found::Nothing => read_table(
-            table,
-            command,
-            user,
-            groups,
-            host,
-            minute,
-            last,
-            args,
-            buffer,
-        ),
-    }
+    read_table(
+        table,
+        command,
+        user,
+        groups,
+        host,
+        minute,
+        last,
+        args,
+        buffer,
+    )
 }

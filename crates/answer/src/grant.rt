@@ -41,8 +41,7 @@ fn put_end(out: &mut [u8], filled: Filled) -> usize
 
 // A path ended by a zero byte, at the beginning, and the place behind it.
 fn put_path(out: &mut [u8], path: &[u8]) -> usize
-    requires { ⌜ length (now path) + 1 ≤ length (now out) ⌝ }
-    ensures { λ r. ⌜ Puts (now (out .entry)) (now (out .exit)) 0 (now (path .entry)) r × (r ≤ length (now (path .entry)) + 1) ⌝ }
+    ensures { λ r. ⌜ (length (now (path .entry)) + 1 ≤ length (now (out .entry)) → Puts (now (out .entry)) (now (out .exit)) 0 (now (path .entry)) r × (r ≤ length (now (path .entry)) + 1)) ⌝ }
 {
     let filled = put_all(out, 0, path);
     put_end(out, filled)
@@ -50,8 +49,7 @@ fn put_path(out: &mut [u8], path: &[u8]) -> usize
 
 // A name ended by a zero byte, from a place on, and the place behind it.
 fn put_name(out: &mut [u8], n: usize, name: IdName) -> usize
-    requires { ⌜ n + 65 ≤ length (now out) ⌝ }
-    ensures { λ r. ⌜ Puts (now (out .entry)) (now (out .exit)) n (idOr (idIn name)) r × (r ≤ n + 65) ⌝ }
+    ensures { λ r. ⌜ (n + 65 ≤ length (now (out .entry)) → Puts (now (out .entry)) (now (out .exit)) n (idOr (idIn name)) r × (r ≤ n + 65)) ⌝ }
 {
     let filled = name.put(out, n);
     put_end(out, filled)
@@ -59,16 +57,14 @@ fn put_name(out: &mut [u8], n: usize, name: IdName) -> usize
 
 // The same of one of the four names of a set.
 fn put_id(out: &mut [u8], n: usize, options: OptionSet, id: Id) -> usize
-    requires { ⌜ n + 65 ≤ length (now out) ⌝ }
-    ensures { λ r. ⌜ Puts (now (out .entry)) (now (out .exit)) n (idOr (idAt (optionsIn options) id)) r × (r ≤ n + 65) ⌝ }
+    ensures { λ r. ⌜ (n + 65 ≤ length (now (out .entry)) → Puts (now (out .entry)) (now (out .exit)) n (idOr (idAt (optionsIn options) id)) r × (r ≤ n + 65)) ⌝ }
 {
     put_name(out, n, options.id(id))
 }
 
 // The path and the four names, each ended by a zero byte, at the buffer's beginning, and where each of them ends.
 fn put_strings(path: &[u8], options: OptionSet, out: &mut [u8]) -> StringEnds
-    requires { ⌜ (2048 ≤ length (now out)) × (length (now path) ≤ 1024) ⌝ }
-    ensures { λ r. ⌜ PutsAll (now (out .entry)) (now (out .exit)) (now (path .entry)) (optionsIn options) r ⌝ }
+    ensures { λ r. ⌜ (2048 ≤ length (now (out .entry)) → length (now (path .entry)) ≤ 1024 → PutsAll (now (out .entry)) (now (out .exit)) (now (path .entry)) (optionsIn options) r) ⌝ }
 {
     let end = put_path(out, path);
     let uid = put_id(out, end, options, Id::Uid);
@@ -86,8 +82,7 @@ fn put_strings(path: &[u8], options: OptionSet, out: &mut [u8]) -> StringEnds
 
 // The strings written into the buffer, and what is told of them.
 pub fn grant(line: usize, path: &[u8], options: OptionSet, out: &mut [u8]) -> Granted
-    requires { ⌜ (2048 ≤ length (now out)) × (length (now path) ≤ 1024) ⌝ }
-    ensures { λ r. ⌜ (r ≡ grantedBy line (now (path .entry)) (optionsIn options)) × (now (out .exit) ≡ laid (now (out .entry)) 0 (strings (now (path .entry)) (optionsIn options))) ⌝ }
+    ensures { λ r. ⌜ (2048 ≤ length (now (out .entry)) → length (now (path .entry)) ≤ 1024 → (r ≡ grantedBy line (now (path .entry)) (optionsIn options)) × (now (out .exit) ≡ laid (now (out .entry)) 0 (strings (now (path .entry)) (optionsIn options)))) ⌝ }
 {
     let ends = put_strings(path, options, out);
     let auth = options.auth();

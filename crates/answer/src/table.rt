@@ -8,6 +8,7 @@ use entry_line::read::EntryAction;
 use entry_line::read::read_entry;
 use line::ends::End;
 use line::ends::control_end;
+use line::refused::refused_byte;
 use line::scan::ScannedLine;
 use line::scan::scan_line;
 use options::set::OptionSet;
@@ -20,15 +21,17 @@ use reader::define::read_define;
 use reader::state::LineOutcome;
 use reader::state::Reader;
 use text::number::at_most;
+use text::slice::Found;
 use variables::Variables;
 use variables::field::FieldText;
 ghost use Prim.Native.Nat.{_≤_};
 ghost use mathlib.Core.Path.{_≡_};
+ghost use mathlib.Core.Option.{some};
 ghost use lib.ListN.{length};
 ghost use Rattle.fault.specs.Fault.{value};
 ghost use Rattle.question.specs.Question.{Question};
-ghost use Rattle.answer.specs.Answer.{result};
-ghost use Rattle.answer.specs.Meaning.{settled, linesGive};
+ghost use Rattle.answer.specs.Answer.{tableLimit, result};
+ghost use Rattle.answer.specs.Meaning.{settled, linesGive, readTable};
 ghost use Rattle.answer.specs.Contract.{decidedIn, AskedWith};
 
 // The decision once made: the deciding line, its verdict, the bytes of the path and the options in force.
@@ -42,8 +45,7 @@ struct Decision {
 
 // The answer where no line has a fault.
 fn settle(decision: Decision, path: &[u8; Path::BYTES], buffer: &mut [u8]) -> Answer
-    requires { ⌜ 2048 ≤ length (now buffer) ⌝ }
-    ensures { λ r. ⌜ result r (now (buffer .exit)) ≡ settled (now (buffer .entry)) (value (decidedIn decision (now (path .entry)))) ⌝ }
+    ensures { λ r. ⌜ (2048 ≤ length (now (buffer .entry)) → result r (now (buffer .exit)) ≡ settled (now (buffer .entry)) (value (decidedIn decision (now (path .entry))))) ⌝ }
 {
     if !decision.made {
         return Answer::NoEntry;
@@ -62,8 +64,8 @@ fn settle(decision: Decision, path: &[u8; Path::BYTES], buffer: &mut [u8]) -> An
     }
 }
 
-// The answer of a table whose bytes are accepted, to a good question.
-pub fn read_table(
+// The answer of a table that is not too long and whose bytes are accepted, to a good question.
+fn read_lines(
     table: &[u8],
     command: &[u8],
     user: &[u8],
@@ -74,8 +76,8 @@ pub fn read_table(
     args: &[u8],
     buffer: &mut [u8],
 ) -> Answer
-    requires { ⌜ (2048 ≤ length (now buffer)) × (length (now table) ≤ 32768) ⌝ }
-    ensures { λ r. ⌜ ((q : Question) → AskedWith q (now (command .entry)) (now (user .entry)) (now (groups .entry)) (now (host .entry)) minute last (now (args .entry)) → result r (now (buffer .exit)) ≡ settled (now (buffer .entry)) (linesGive q (now (table .entry)))) ⌝ }
+    requires { ⌜ length (now table) ≤ tableLimit ⌝ }
+    ensures { λ r. ⌜ (2048 ≤ length (now (buffer .entry)) → (q : Question) → AskedWith q (now (command .entry)) (now (user .entry)) (now (groups .entry)) (now (host .entry)) minute last (now (args .entry)) → result r (now (buffer .exit)) ≡ settled (now (buffer .entry)) (linesGive q (now (table .entry)))) ⌝ }
 {
     let mut variables = Variables::new();
     let mut reader = Reader::new();
@@ -238,4 +240,37 @@ pub fn read_table(
         }
     }
     settle(decision, &path, buffer)
+}
+
+// The answer of a table to a good question: its length, its bytes, then its control lines.
+pub fn read_table(
+    table: &[u8],
+    command: &[u8],
+    user: &[u8],
+    groups: &[u8],
+    host: &[u8],
+    minute: WeekMinute,
+    last: LastAuthentication,
+    args: &[u8],
+    buffer: &mut [u8],
+) -> Answer
+    ensures { λ r. ⌜ (2048 ≤ length (now (buffer .entry)) → (q : Question) → AskedWith q (now (command .entry)) (now (user .entry)) (now (groups .entry)) (now (host .entry)) minute last (now (args .entry)) → result r (now (buffer .exit)) ≡ readTable (now (table .entry)) (now (buffer .entry)) (some q)) ⌝ }
+{
+    if table.len() > Answer::TABLE {
+        return Answer::LongTable;
+    }
+    match refused_byte(table) {
+        Found::At(place) => Answer::RefusedByte(place),
+        Found::Nothing => read_lines(
+            table,
+            command,
+            user,
+            groups,
+            host,
+            minute,
+            last,
+            args,
+            buffer,
+        ),
+    }
 }

@@ -12,7 +12,7 @@ same-length : tie.Need-same-length
 same-length c = search needs
 
 returns : tie.Need-returns
-returns c = rw (c .before .before .before .id .ensures) at (c .before .before .put-name .ensures)
+returns c = λ h. rw (c .before .before .before .id .ensures) at (c .before .before .put-name .ensures h)
 
 pub put-id-spec : {M : Type 1} → statement M
 put-id-spec = tie.close (tie.spec id-requires put-name-requires same-length returns)

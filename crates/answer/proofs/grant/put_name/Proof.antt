@@ -19,11 +19,11 @@ same-length : tie.Need-same-length
 same-length c = search needs
 
 returns : tie.Need-returns
-returns c =
+returns c = λ h.
     let a = c .before .before .before .before .before .before .before .before .before .args in
     let l : length (a .name .bytes) ≡ 64 = search needs in
     let s = id-short (a .name) l in
-    let p = c .before .before .put-end .ensures (a .out .now) (a .n) (idOr (idIn (a .name))) (c .before .before .before .before .before .before .put .ensures) (omega (arith, s, c .before .before .before .before .before .before .before .before .before .pre)) in
+    let p = c .before .before .put-end .ensures (a .out .now) (a .n) (idOr (idIn (a .name))) (c .before .before .before .before .before .before .put .ensures) (omega (arith, s, h)) in
     (p, omega (arith, p .end, s, length-append (idOr (idIn (a .name))) (0 ∷ [])))
 
 pub put-name-spec : {M : Type 1} → statement M

@@ -15,9 +15,9 @@ same-length : tie.Need-same-length
 same-length c = search needs
 
 returns : tie.Need-returns
-returns c =
+returns c = λ h.
     let a = c .before .before .before .before .before .before .before .before .before .before .args in
-    let p = c .before .before .put-end .ensures (a .out .now) 0 (a .path .now) (c .before .before .before .before .before .before .put-all .ensures) (omega (arith, c .before .before .before .before .before .before .before .before .before .before .pre)) in
+    let p = c .before .before .put-end .ensures (a .out .now) 0 (a .path .now) (c .before .before .before .before .before .before .put-all .ensures) (omega (arith, h)) in
     (p, omega (arith, p .end, length-append (a .path .now) (0 ∷ [])))
 
 pub put-path-spec : {M : Type 1} → statement M

@@ -9,7 +9,7 @@ use Rattle.answer.proofs.table.settle.Statement.{statement}
 use Rattle.answer.proofs.table.settle.Tie as tie
 
 returns : tie.Need-returns
-returns c = settle-none _ (c .before .before .before .args .decision) _ (not-true _ (c .if1 .taken))
+returns c = λ g. settle-none _ (c .before .before .before .args .decision) _ (not-true _ (c .if1 .taken))
 
 at-most-requires : tie.Need-at-most-requires
 at-most-requires c κs = search needs
@@ -30,34 +30,34 @@ enum-told-4 : tie.Need-enum-told-4
 enum-told-4 c = search needs
 
 grant-requires : tie.Need-grant-requires
-grant-requires c κs = let k = c .before .before .before .before .at-most .ensures .1 in let l = length-take (c .before .before .before .before .at-most .result) (c .before .before .before .before .before .before .before .before .before .before .args .path .now) in (c .before .before .before .before .before .before .before .before .before .before .pre, omega (arith, k, l))
+grant-requires c κs = search needs
 
 enum-told-5 : tie.Need-enum-told-5
 enum-told-5 c = search needs
 
 grant-requires-2 : tie.Need-grant-requires-2
-grant-requires-2 c κs = let k = c .before .before .before .before .at-most .ensures .1 in let l = length-take (c .before .before .before .before .at-most .result) (c .before .before .before .before .before .before .before .before .before .before .args .path .now) in (c .before .before .before .before .before .before .before .before .before .before .pre, omega (arith, k, l))
+grant-requires-2 c κs = search needs
 
 returns-2 : tie.Need-returns-2
-returns-2 c = settle-nargs _ (c .before .before .before .before .before .before .before .before .before .args .decision) _ (not-false _ (c .before .before .before .before .before .before .if1 .left)) (c .enum-told .given .1)
+returns-2 c = λ g. settle-nargs _ (c .before .before .before .before .before .before .before .before .before .args .decision) _ (not-false _ (c .before .before .before .before .before .before .if1 .left)) (c .enum-told .given .1)
 
 returns-3 : tie.Need-returns-3
-returns-3 c = settle-argument _ (c .before .before .before .before .before .before .before .before .before .args .decision) _ (not-false _ (c .before .before .before .before .before .before .if1 .left)) (c .enum-told2 .given .1)
+returns-3 c = λ g. settle-argument _ (c .before .before .before .before .before .before .before .before .before .args .decision) _ (not-false _ (c .before .before .before .before .before .before .if1 .left)) (c .enum-told2 .given .1)
 
 returns-4 : tie.Need-returns-4
-returns-4 c = settle-path _ (c .before .before .before .before .before .before .before .before .before .args .decision) _ (not-false _ (c .before .before .before .before .before .before .if1 .left)) (c .enum-told3 .given .1)
+returns-4 c = λ g. settle-path _ (c .before .before .before .before .before .before .before .before .before .args .decision) _ (not-false _ (c .before .before .before .before .before .before .if1 .left)) (c .enum-told3 .given .1)
 
 same-length : tie.Need-same-length
 same-length c = search needs
 
 returns-5 : tie.Need-returns-5
-returns-5 c = let l : length (c .before .before .before .before .before .before .before .before .before .before .before .before .before .args .path .now) ≡ 1024 = search needs in settle-password _ (c .before .before .before .before .before .before .before .before .before .before .before .before .before .args .decision) (c .before .before .before .before .before .before .before .before .before .before .before .before .before .args .path .now) (not-false _ (c .before .before .before .before .before .before .before .before .before .before .if1 .left)) l (c .before .before .before .before .before .before .before .at-most .ensures .0) (c .before .before .grant .ensures .0) (c .before .before .grant .ensures .1) (c .before .before .before .before .enum-told4 .given .1)
+returns-5 c = λ g. let k = c .before .before .before .before .before .before .before .at-most .ensures .1 in let t = length-take (c .before .before .before .before .before .before .before .at-most .result) (c .before .before .before .before .before .before .before .before .before .before .before .before .before .args .path .now) in let w = c .before .before .grant .ensures g (omega (arith, k, t)) in let l : length (c .before .before .before .before .before .before .before .before .before .before .before .before .before .args .path .now) ≡ 1024 = search needs in settle-password _ (c .before .before .before .before .before .before .before .before .before .before .before .before .before .args .decision) (c .before .before .before .before .before .before .before .before .before .before .before .before .before .args .path .now) (not-false _ (c .before .before .before .before .before .before .before .before .before .before .if1 .left)) l (c .before .before .before .before .before .before .before .at-most .ensures .0) (w .0) (w .1) (c .before .before .before .before .enum-told4 .given .1)
 
 same-length-2 : tie.Need-same-length-2
 same-length-2 c = search needs
 
 returns-6 : tie.Need-returns-6
-returns-6 c = let l : length (c .before .before .before .before .before .before .before .before .before .before .before .before .before .args .path .now) ≡ 1024 = search needs in settle-permit _ (c .before .before .before .before .before .before .before .before .before .before .before .before .before .args .decision) (c .before .before .before .before .before .before .before .before .before .before .before .before .before .args .path .now) (not-false _ (c .before .before .before .before .before .before .before .before .before .before .if1 .left)) l (c .before .before .before .before .before .before .before .at-most .ensures .0) (c .before .before .grant2 .ensures .0) (c .before .before .grant2 .ensures .1) (c .before .before .before .before .enum-told5 .given .1)
+returns-6 c = λ g. let k = c .before .before .before .before .before .before .before .at-most .ensures .1 in let t = length-take (c .before .before .before .before .before .before .before .at-most .result) (c .before .before .before .before .before .before .before .before .before .before .before .before .before .args .path .now) in let w = c .before .before .grant2 .ensures g (omega (arith, k, t)) in let l : length (c .before .before .before .before .before .before .before .before .before .before .before .before .before .args .path .now) ≡ 1024 = search needs in settle-permit _ (c .before .before .before .before .before .before .before .before .before .before .before .before .before .args .decision) (c .before .before .before .before .before .before .before .before .before .before .before .before .before .args .path .now) (not-false _ (c .before .before .before .before .before .before .before .before .before .before .if1 .left)) l (c .before .before .before .before .before .before .before .at-most .ensures .0) (w .0) (w .1) (c .before .before .before .before .enum-told5 .given .1)
 
 pub settle-spec : {M : Type 1} → statement M
 settle-spec =
