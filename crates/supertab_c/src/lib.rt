@@ -1,4 +1,4 @@
 // The call for C and for whoever calls by C's ABI (include/supertab.h): numbers and lent slices in, a number out.
-pub mod asked; // a minute and an age as a caller in C gives them
+mod asked; // a minute and an age as a caller in C gives them
 pub mod call; // the call itself
-pub mod report; // the report: 24 numbers beside the answer's number
+mod report; // the report: 24 numbers beside the answer's number
