@@ -20,8 +20,7 @@ use Rattle.console.specs.declared.respond.Response.the-variants.{Written
 use Rattle.console.specs.QuestionLine.{askedIn}
 use Rattle.console.specs.Printed.{printed}
 use Rattle.console.specs.Console.{toldFor, outcomeFor, response}
-use Rattle.console.specs.Contract.{part, Placed, Reads}
-use Rattle.console.specs.Respond.{Responds}
+use Rattle.console.specs.Contract.{part, Placed, Reads, Responds}
 use Rattle.console.proofs.PartLaws.{fits}
 use Rattle.console.proofs.ResponseLaws.{response-length}
 

@@ -1,4 +1,4 @@
--- What the contracts of the functions say: numbers held at a limit, where the pieces of a line are, and what stands beside an answer.
+-- What the contracts of the functions say: numbers held at a limit, where the pieces of a line are, what stands beside an answer, and what `respond` leaves in the buffer.
 use mathlib.Core.Path.{_≡_}
 use mathlib.Core.Bool.{false, cond}
 use mathlib.Core.List.{List, []}
@@ -6,6 +6,7 @@ use mathlib.Core.Option.{Option, none, some}
 use Prim.Native.Nat.{ℕ, _+_, _-_, _≤_, _<_, min}
 use lib.Dec.{ltb}
 use lib.ListN.{length, take, drop}
+use Rattle.text.specs.Buffer.{laid}
 use Rattle.text.specs.Lists.{splitAt}
 use Rattle.text.specs.Contract.{lead}
 use Rattle.question.specs.declared.WeekMinute.{WeekMinute}
@@ -18,6 +19,9 @@ use Rattle.answer.specs.declared.Answer.the-variants.{Permit, Password, NoEntry
 use Rattle.answer.specs.Answer.{tableLimit}
 use Rattle.answer.specs.Meaning.{Asked}
 use Rattle.console.specs.QuestionLine.{lineLimit}
+use Rattle.console.specs.Console.{response}
+use Rattle.console.specs.declared.respond.Response.{Response}
+use Rattle.console.specs.declared.respond.Response.the-variants.{Written, SmallBuffer as SmallRoom}
 use Rattle.console.specs.declared.«question_line».Magnitude.{Magnitude}
 use Rattle.console.specs.declared.«question_line».MinuteRead.{MinuteRead}
 use Rattle.console.specs.declared.«question_line».AgeRead.{AgeRead}
@@ -124,3 +128,12 @@ numberBeside (RefusedByte p) = p
 numberBeside (CutShort p) = p
 numberBeside (RefusedLine c p) = p
 numberBeside SmallBuffer = 0
+
+-- the least bytes of the lent buffer; every response fits into it (law `response-length`)
+abbrev pub leastRoom : ℕ
+leastRoom = 2048
+
+-- the response stands at the buffer's beginning and later bytes stay, or the buffer is too small and stays
+abbrev pub Responds : List ℕ → List ℕ → List ℕ → List ℕ → Response → Type 0
+Responds table line old new SmallRoom = (length old < leastRoom) × (new ≡ old)
+Responds table line old new (Written n) = (leastRoom ≤ length old) × (n ≡ length (response table line)) × (new ≡ laid old 0 (response table line))

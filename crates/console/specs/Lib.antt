@@ -2,4 +2,3 @@ pub mod QuestionLine
 pub mod Printed
 pub mod Console
 pub mod Contract
-pub mod Respond

@@ -14,7 +14,7 @@ ghost use mathlib.Core.Path.{_≡_};
 ghost use mathlib.Core.List.{List};
 ghost use Rattle.text.specs.Contract.{Wrote};
 ghost use Rattle.answer.specs.Answer.{stringIn, grantIn, toldOf};
-ghost use Rattle.output.specs.Behind.{WroteAfter};
+ghost use Rattle.output.specs.Contract.{WroteAfter};
 ghost use Rattle.console.specs.Printed.{idText, grantText, stopWord, stopText, refusalText, printed};
 ghost use Rattle.console.specs.Contract.{grantBeside, numberBeside};
 

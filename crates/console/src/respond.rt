@@ -9,7 +9,7 @@ ghost use mathlib.Core.Path.{_≡_};
 ghost use Rattle.answer.specs.Answer.{result};
 ghost use Rattle.console.specs.QuestionLine.{askedIn};
 ghost use Rattle.console.specs.Console.{outcomeFor};
-ghost use Rattle.console.specs.Respond.{Responds};
+ghost use Rattle.console.specs.Contract.{Responds};
 
 // How a response was written.
 pub enum Response {

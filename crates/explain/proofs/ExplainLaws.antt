@@ -12,7 +12,7 @@ use Rattle.fault.specs.declared.Cause.{Cause}
 use Rattle.answer.specs.declared.Answer.{Answer}
 use Rattle.answer.specs.declared.Answer.the-variants.{Permit, Password, NoEntry, StoppedByNargs, StoppedByArgument, StoppedByPath, MalformedQuestion, LongTable, RefusedByte, CutShort, RefusedLine, SmallBuffer}
 use Rattle.answer.proofs.Answer.{the-type}
-use Rattle.output.specs.Behind.{WroteAfter}
+use Rattle.output.specs.Contract.{WroteAfter}
 use Rattle.output.specs.Decimal.{decimal}
 use Rattle.explain.specs.Place.{lineNumber, lineStart, lineEnd, column, physicalLine, lineFront}
 use Rattle.explain.specs.Words.{wordsOf, refusedByteWords, cutShortWords}

@@ -14,7 +14,7 @@ ghost use Prim.Native.Nat.{_≤_};
 ghost use lib.ListN.{length};
 ghost use Rattle.text.specs.Contract.{Wrote};
 ghost use Rattle.fault.specs.Fault.{numberOf};
-ghost use Rattle.output.specs.Behind.{WroteAfter};
+ghost use Rattle.output.specs.Contract.{WroteAfter};
 ghost use Rattle.explain.specs.Words.{wordsOf};
 ghost use Rattle.explain.specs.Explained.{refused, position, refusal, refusalAt, explained};
 

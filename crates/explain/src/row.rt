@@ -10,7 +10,7 @@ ghost use Prim.Native.Nat.{_≤_};
 ghost use mathlib.Core.Path.{_≡_};
 ghost use mathlib.Core.List.{map};
 ghost use lib.ListN.{length};
-ghost use Rattle.output.specs.Behind.{WroteAfter};
+ghost use Rattle.output.specs.Contract.{WroteAfter};
 ghost use Rattle.explain.specs.Explained.{shownIn, rows};
 
 // The row that a byte is printed in.

@@ -4,7 +4,7 @@ use output::behind::then_all;
 use text::buffer::Filled;
 ghost use mathlib.Core.Path.{_≡_};
 ghost use Rattle.fault.specs.Fault.{numberOf};
-ghost use Rattle.output.specs.Behind.{WroteAfter};
+ghost use Rattle.output.specs.Contract.{WroteAfter};
 ghost use Rattle.explain.specs.Words.{wordsOf};
 
 // The words of a cause behind what was put before.

@@ -30,14 +30,6 @@ module _ (a b : IdName) where
   unfolding idIn orElse
   id-else e = rw e
 
-pub id-told : (a : IdName) → idIn a ≡ cond (a .given) (some (idOr (idIn a))) none
-unfolding idIn
-id-told a = go (a .given)
-  where
-    go : (b : Bool) → cond b (some (take (a .size) (a .bytes))) none ≡ cond b (some (idOr (cond b (some (take (a .size) (a .bytes))) none))) none
-    go true = refl
-    go false = refl
-
 -- one more byte copied
 pub copied : (a s : List ℕ) (i : ℕ) → i < length s → i < length a → take i a ≡ take i s → take (i + 1) (set a i (getD s i 0)) ≡ take (i + 1) s
 copied a s i h g e = rw (add-one, take-suc-set a i (getD s i 0) g, take-suc s i 0 h, e)

@@ -39,11 +39,6 @@ module _ {A : Type 0} where
   else-none none = refl
   else-none (some x) = refl
 
-  else-same : (a : Option A) → orElse a a ≡ a
-  unfolding orElse
-  else-same none = refl
-  else-same (some x) = refl
-
 -- how the options are grouped does not matter
 pub over-assoc : (a b c : Options) → over (over a b) c ≡ over a (over b c)
 unfolding over
@@ -57,11 +52,6 @@ none-over a = refl
 pub over-none : (a : Options) → over a noOptions ≡ a
 unfolding over noOptions
 over-none a = simp else-none
-
--- a set laid over itself gives it back
-pub over-same : (a : Options) → over a a ≡ a
-unfolding over
-over-same a = simp else-same
 
 -- the same of the sets by value
 module _ (a b o : OptionSet) where

@@ -5,9 +5,8 @@ use pattern::matcher::matches_pattern;
 use question::strings::string_end;
 ghost use Prim.Native.Nat.{ℕ};
 ghost use mathlib.Core.Path.{_≡_};
-ghost use mathlib.Core.Bool.{Bool, false, not, _||_};
+ghost use mathlib.Core.Bool.{not, _||_};
 ghost use mathlib.Core.List.{List, []};
-ghost use lib.ListN.{getD};
 ghost use Rattle.text.specs.Class.{range};
 ghost use Rattle.text.specs.Lists.{any};
 ghost use Rattle.question.specs.Contract.{stringsIn};
@@ -85,17 +84,6 @@ impl Failures {
             OptionSetting::SetArgument(first, last) => self.mark(first, last, value, args),
             _ => self,
         }
-    }
-
-    // Whether the argument with that index, from 0, fails.
-    pub fn fails_at(self, i: usize) -> bool
-        ensures { λ r. ⌜ r ≡ getD (self .at) i false ⌝ }
-    {
-        let at = self.at;
-        if i < Failures::POSITIONS {
-            return at[i];
-        }
-        false
     }
 
     // Whether some argument fails.

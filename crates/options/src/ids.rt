@@ -63,13 +63,6 @@ impl IdName {
         if given { self } else { other }
     }
 
-    // Whether it is set.
-    pub fn is_given(self) -> bool
-        ensures { λ r. ⌜ idIn self ≡ cond r (some (idOr (idIn self))) none ⌝ }
-    {
-        self.given
-    }
-
     // Its bytes put into a lent buffer; none where it is not set.
     pub fn put(self, out: &mut [u8], n: usize) -> Filled
         ensures { λ r. ⌜ Wrote (now (out .entry)) (now (out .exit)) n (idOr (idIn self)) r ⌝ }

@@ -6,7 +6,7 @@ use Rattle.text.specs.Contract.{Wrote}
 use Rattle.text.specs.declared.buffer.Filled.{Filled}
 use Rattle.text.specs.declared.buffer.Filled.the-variants.{Done, Full}
 use Rattle.text.proofs.Buffers.{wrote-then, wrote-full, wrote-as}
-use Rattle.output.specs.Behind.{WroteAfter}
+use Rattle.output.specs.Contract.{WroteAfter}
 
 module _ {before : Filled} {mid : List ℕ} where
   pub after-done : {new ys : List ℕ} {k : ℕ} {r : Filled} → before ≡ Done k → Wrote mid new k ys r → WroteAfter before mid new ys r

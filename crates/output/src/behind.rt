@@ -4,7 +4,7 @@ use text::buffer::Filled;
 use text::buffer::put;
 use text::buffer::put_all;
 ghost use mathlib.Core.List.{[], _∷_};
-ghost use Rattle.output.specs.Behind.{WroteAfter};
+ghost use Rattle.output.specs.Contract.{WroteAfter};
 ghost use Rattle.output.specs.Decimal.{decimal};
 
 // One byte.

@@ -8,8 +8,8 @@ use native.Mathlib.Nat.{add-zero, zero-add}
 use native.Mathlib.Omega.{arith}
 use borrow.Author.Tests.{ne-eqb, le-leb, lt-leb}
 use lib.Dec.{eqb, leb}
-use lib.ListN.{length, take, drop, getD, drop-of-length-le}
-use Rattle.text.specs.Lists.{null, all, any}
+use lib.ListN.{length, take, drop, drop-of-length-le}
+use Rattle.text.specs.Lists.{null, all}
 use Rattle.text.specs.Contract.{lead}
 use Rattle.text.proofs.Laws.{next, both-no}
 use Rattle.text.proofs.Leads.{by-lead, by-none, lead-past, from-place}
@@ -72,35 +72,12 @@ module _ (s : List ℕ) (from end : ℕ) (e : end ≡ from + lead 0 (drop from s
   pub in-open : end ≡ length s → stringsIn (drop from s) ≡ []
   in-open q = in-cut (drop from s) (lead-past 0 s from end e (omega arith))
 
-  -- a turn of a loop that counts, with n strings before this place, and of one that looks for the i-th
+  -- a turn of a loop that counts, with n strings before this place
   pub count-on : (n : ℕ) → end < length s → n + 1 + length (stringsIn (drop (end + 1) s)) ≡ n + length (stringsIn (drop from s))
   count-on n h = rw (in-at h) (omega arith)
 
   pub count-open : (n : ℕ) → end ≡ length s → n ≡ n + length (stringsIn (drop from s))
   count-open n q = rw (in-open q) (omega arith)
-
-  pub at-on : (n i : ℕ) → n ≤ i → (n ≡ i → ⊥) → end < length s → getD (stringsIn (drop (end + 1) s)) (i - (n + 1)) [] ≡ getD (stringsIn (drop from s)) (i - n) []
-  at-on n i k d h = let z : i - n ≡ suc (i - (n + 1)) = omega (arith, d) in rw (in-at h, z)
-
-  pub at-hit : (n i : ℕ) → n ≡ i → end < length s → take (end - from) (drop from s) ≡ getD (stringsIn (drop from s)) (i - n) []
-  at-hit n i k h = let z : i - n ≡ 0 = omega arith in rw (in-at h, z)
-
-  pub at-open : (k : ℕ) → end ≡ length s → [] ≡ getD (stringsIn (drop from s)) k []
-  at-open k q = rw (in-open q)
-
-  -- a turn of a loop that asks whether some string passes f
-  module _ (f : List ℕ → Bool) where
-    pub some-on : end < length s → f (take (end - from) (drop from s)) ≡ false → any f (stringsIn (drop (end + 1) s)) ≡ any f (stringsIn (drop from s))
-    unfolding any
-    some-on h t = rw (in-at h, t)
-
-    pub some-hit : end < length s → f (take (end - from) (drop from s)) ≡ true → true ≡ any f (stringsIn (drop from s))
-    unfolding any
-    some-hit h t = rw (in-at h, t)
-
-    pub some-open : end ≡ length s → false ≡ any f (stringsIn (drop from s))
-    unfolding any
-    some-open q = rw (in-open q)
 
 -- past the list's end
 module _ (s : List ℕ) (i : ℕ) where
@@ -110,16 +87,6 @@ module _ (s : List ℕ) (i : ℕ) where
 
   pub count-end : (n : ℕ) → length s ≤ i → n ≡ n + length (stringsIn (drop i s))
   count-end n h = rw (in-end h) (omega arith)
-
-  pub at-end : (k : ℕ) → length s ≤ i → [] ≡ getD (stringsIn (drop i s)) k []
-  at-end k h = rw (in-end h)
-
-  pub some-end : (f : List ℕ → Bool) → length s ≤ i → false ≡ any f (stringsIn (drop i s))
-  unfolding any
-  some-end f h = rw (in-end h)
-
-pub at-start : (l : List (List ℕ)) (i : ℕ) → getD l (i - 0) [] ≡ getD l i []
-at-start l i = let z : i - 0 ≡ i = omega arith in rw z
 
 -- a loop over strings that must all be good, with k of them seen and at most `most` allowed
 module _ (f : List ℕ → Bool) (most : ℕ) where

@@ -67,10 +67,3 @@ pub enum LastAuthentication {
     Never,
     Minutes(Age),
 }
-
-// The limits under their old names.
-pub struct Limits;
-
-impl Limits {
-    pub const ARGUMENTS: usize = Arguments::MOST;
-}

@@ -2,8 +2,7 @@
 use text::slice::byte_from;
 ghost use Prim.Native.Nat.{_+_, _≤_};
 ghost use mathlib.Core.Path.{_≡_};
-ghost use mathlib.Core.List.{[]};
-ghost use lib.ListN.{length, drop, getD};
+ghost use lib.ListN.{length, drop};
 ghost use Rattle.text.specs.Contract.{lead};
 ghost use Rattle.question.specs.Contract.{stringsIn};
 
@@ -29,24 +28,4 @@ pub fn string_count(list: &[u8]) -> usize
         n += 1;
     }
     n
-}
-
-// The i-th string of the list, from 0; an empty part where there is none.
-pub fn string_at(list: &[u8], i: usize) -> &[u8]
-    ensures { λ r. ⌜ now r ≡ getD (stringsIn (now (list .entry))) i [] ⌝ }
-{
-    let mut from = 0;
-    let mut n: usize = 0;
-    while from < list.len() {
-        let end = string_end(list, from);
-        if end == list.len() {
-            return &list[0..0];
-        }
-        if n == i {
-            return &list[from..end];
-        }
-        from = end + 1;
-        n += 1;
-    }
-    &list[0..0]
 }

@@ -12,7 +12,7 @@ use Rattle.text.specs.Buffer.{laid}
 use Rattle.text.proofs.Laws.{clash}
 use Rattle.text.proofs.Buffers.{laid-length, laid-take}
 use Rattle.console.specs.Console.{response}
-use Rattle.console.specs.Respond.{Responds}
+use Rattle.console.specs.Contract.{Responds}
 use Rattle.console.specs.declared.respond.Response.{Response}
 use Rattle.console.specs.declared.respond.Response.the-variants.{Written, SmallBuffer}
 use Rattle.console.proofs.ResponseLaws.{response-length}

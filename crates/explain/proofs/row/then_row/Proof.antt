@@ -5,7 +5,7 @@ use native.Mathlib.Omega.{arith}
 use borrow.Author.Needs.{needs}
 use lib.ListN.{length, drop}
 use Rattle.text.specs.declared.buffer.Filled.{Filled}
-use Rattle.output.specs.Behind.{WroteAfter}
+use Rattle.output.specs.Contract.{WroteAfter}
 use Rattle.explain.specs.Explained.{shownIn}
 use Rattle.output.proofs.BehindLaws.{after-then, after-as, after-none}
 use Rattle.explain.proofs.RowLaws.{row-next, row-end}
