@@ -22,9 +22,9 @@ laid-length out n [] = refl
 laid-length out n (b ∷ xs) = laid-length (set out n b) (n + 1) xs ∙ length-set out n b
 
 -- a turn of a loop that stores what stands at i
-pub laid-next : (out : List ℕ) (m : ℕ) (s : List ℕ) (i : ℕ) → i < length s → laid (set out m (getD s i 0)) (m + 1) (drop (i + 1) s) ≡ laid out m (drop i s)
+pub laid-next : (out : List ℕ) (n : ℕ) (s : List ℕ) (i : ℕ) → i < length s → laid (set out (n + i) (getD s i 0)) (n + (i + 1)) (drop (i + 1) s) ≡ laid out (n + i) (drop i s)
 unfolding laid
-laid-next out m s i h = rw (next s i)
+laid-next out n s i h = rw (next s i) (ap (λ (k : ℕ). laid (set out (n + i) (getD s i 0)) k (drop (i + 1) s)) (omega arith))
 
 pub laid-end : (out : List ℕ) (m : ℕ) (s : List ℕ) (i : ℕ) → length s ≤ i → laid out m (drop i s) ≡ out
 unfolding laid

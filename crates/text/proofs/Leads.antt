@@ -1,6 +1,6 @@
 -- The laws of the first byte c of a list: `lead` says how many bytes stand in front of it.
 use mathlib.Core.Path.{_≡_, refl, sym, ap, _∙_}
-use mathlib.Core.Bool.{Bool, true, false, cond}
+use mathlib.Core.Bool.{Bool, true, false, cond, _||_}
 use mathlib.Core.List.{List, [], _∷_}
 use mathlib.Core.Option.{none, some}
 use Prim.Native.Nat.{ℕ, zero, suc, _+_, _-_, _≤_, _<_}
@@ -29,6 +29,17 @@ module _ (c : ℕ) (s : List ℕ) (i : ℕ) where
   pub lead-end : length s ≤ i → i ≡ i + lead c (drop i s)
   unfolding lead
   lead-end h = rw (drop-of-length-le s) (omega arith)
+
+  -- a turn of a loop that looks at all bytes
+  pub among-on : (found : Bool) → i < length s → (found || eqb (getD s i 0) c) || has c (drop (i + 1) s) ≡ found || has c (drop i s)
+  unfolding has any
+  among-on true h = refl
+  among-on false h = rw (next s i)
+
+  pub among-end : (found : Bool) → length s ≤ i → found ≡ found || has c (drop i s)
+  unfolding has any
+  among-end true h = refl
+  among-end false h = rw (drop-of-length-le s)
 
 module _ (c : ℕ) where
   -- a list that has a c: what holds where c is first, and with another byte in front, holds of it
@@ -165,3 +176,21 @@ module _ (c : ℕ) (s : List ℕ) (r : Found) (f : r ≡ findByte c 0 s) where
 
   pub found-none : r ≡ Nothing → partAt c s ≡ none
   found-none e = parted-none c s (missing-lead c 0 s (sym f ∙ e))
+
+-- bytes without c in front
+skipped : (c n : ℕ) (s : List ℕ) → n ≤ length s → has c (take n s) ≡ false → n + lead c (drop n s) ≡ lead c s
+unfolding lead has any
+skipped c zero s h e = omega arith
+skipped c (suc n) [] h e = absurd (omega arith)
+skipped c (suc n) (b ∷ s) h e = go (eqb b c) e (λ k. skipped c n s (omega arith) k)
+  where
+    go : (t : Bool) → t || has c (take n s) ≡ false → (has c (take n s) ≡ false → n + lead c (drop n s) ≡ lead c s) → suc n + lead c (drop n s) ≡ cond t 0 (suc (lead c s))
+    go true e f = clash cc
+    go false e f = let k = f e in omega arith
+
+pub lead-block : (c : ℕ) (s : List ℕ) (i k : ℕ) → i ≤ k → k ≤ length s → has c (take (k - i) (drop i s)) ≡ false → k + lead c (drop k s) ≡ i + lead c (drop i s)
+lead-block c s i k g h e =
+    let l = length-drop i s in
+    let n = skipped c (k - i) (drop i s) (omega arith) e in
+    let t : i + (k - i) ≡ k = omega arith in
+    let d : lead c (drop (k - i) (drop i s)) ≡ lead c (drop k s) = ap (lead c) (drop-drop (k - i) i s ∙ rw t) in omega arith

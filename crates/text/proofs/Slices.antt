@@ -4,10 +4,12 @@ use mathlib.Core.Bool.{Bool, true, false, cond, _&&_}
 use mathlib.Core.List.{List, [], _∷_, _++_}
 use mathlib.Core.Option.{Option, none, some, Option·map}
 use Prim.Native.Nat.{ℕ, suc, _+_, _-_, _≤_, _<_}
+use native.Mathlib.Nat.{add-zero}
 use native.Mathlib.Omega.{arith}
 use borrow.Author.Tests.{eq-eqb, ne-eqb, eqb-true}
 use lib.Dec.{eqb}
 use lib.ListN.{length, length-append, take, drop, getD, drop-of-length-le, length-drop}
+use lib.Seq.{drop-drop}
 use Rattle.text.specs.Lists.{has}
 use Rattle.text.proofs.Laws.{next, part-rest, both-true, both-no, false-of, clash}
 use Rattle.text.specs.Parts.{Parts, withFirst, partAtPair}
@@ -15,7 +17,7 @@ use Rattle.text.specs.declared.slice.Found.{Found}
 use Rattle.text.specs.declared.slice.Found.the-variants.{At, Nothing}
 use Rattle.text.specs.Slice.{same, startsWith, headIs, findPair}
 use Rattle.text.specs.Contract.{lead, findByte}
-use Rattle.text.proofs.Leads.{found-lead, missing-lead, lead-at, lead-before, lead-none}
+use Rattle.text.proofs.Leads.{found-lead, missing-lead, lead-at, lead-before, lead-none, reach-stop}
 
 pub same-true : (a b : List ℕ) → same a b ≡ true → a ≡ b
 unfolding same
@@ -78,10 +80,10 @@ pair-next : (c d : ℕ) (s : List ℕ) (i : ℕ) → i + 1 < length s → findPa
 unfolding findPair headIs
 pair-next c d s i h = let k : i < length s = omega arith in rw (next s i k, next s (i + 1) h)
 
-pub pair-hit : (c d : ℕ) (s : List ℕ) (i : ℕ) → i + 1 < length s → pairAt c d s i ≡ true → At i ≡ findPair c d i (drop i s)
+pair-hit : (c d : ℕ) (s : List ℕ) (i : ℕ) → i + 1 < length s → pairAt c d s i ≡ true → At i ≡ findPair c d i (drop i s)
 pair-hit c d s i h t = rw (pair-next c d s i h, t)
 
-pub pair-on : (c d : ℕ) (s : List ℕ) (i : ℕ) → i + 1 < length s → pairAt c d s i ≡ false → findPair c d (i + 1) (drop (i + 1) s) ≡ findPair c d i (drop i s)
+pair-on : (c d : ℕ) (s : List ℕ) (i : ℕ) → i + 1 < length s → pairAt c d s i ≡ false → findPair c d (i + 1) (drop (i + 1) s) ≡ findPair c d i (drop i s)
 pair-on c d s i h t = rw (pair-next c d s i h, t)
 
 few : (c d : ℕ) (at : ℕ) (s : List ℕ) → length s ≤ 1 → Nothing ≡ findPair c d at s
@@ -92,6 +94,30 @@ few c d at (x ∷ (y ∷ s)) h = absurd (omega arith)
 
 pub pair-end : (c d : ℕ) (s : List ℕ) (i : ℕ) → length s ≤ i + 1 → Nothing ≡ findPair c d i (drop i s)
 pair-end c d s i h = few c d i (drop i s) (rw length-drop (omega arith))
+
+-- no pair begins before the first c
+pair-lead : (c d at : ℕ) (s : List ℕ) → findPair c d at s ≡ findPair c d (at + lead c s) (drop (lead c s) s)
+unfolding findPair lead
+pair-lead c d at [] = refl
+pair-lead c d at (x ∷ s) = go (eqb x c) refl (pair-lead c d (at + 1) s)
+  where
+    go : (t : Bool) → eqb x c ≡ t → findPair c d (at + 1) s ≡ findPair c d (at + 1 + lead c s) (drop (lead c s) s) → cond (t && headIs d s) (At at) (findPair c d (at + 1) s) ≡ findPair c d (at + cond t 0 (suc (lead c s))) (drop (cond t 0 (suc (lead c s))) (x ∷ s))
+    go true e k = rw (e, add-zero)
+    go false e k = k ∙ ap (λ (k : ℕ). findPair c d k (drop (lead c s) s)) (omega arith)
+
+-- a turn of a loop that looks for the next c first
+module _ (c d : ℕ) (s : List ℕ) (i at : ℕ) (e : at ≡ i + lead c (drop i s)) where
+  pair-there : findPair c d i (drop i s) ≡ findPair c d at (drop at s)
+  pair-there = pair-lead c d i (drop i s) ∙ rw (e, drop-drop)
+
+  pub pair-none : length s ≤ at + 1 → Nothing ≡ findPair c d i (drop i s)
+  pair-none h = pair-end c d s at h ∙ sym pair-there
+
+  pub pair-here : at + 1 < length s → getD s (at + 1) 0 ≡ d → At at ≡ findPair c d i (drop i s)
+  pair-here h t = pair-hit c d s at h (simp (eq-eqb _ _ (reach-stop c s i at e (omega arith)), eq-eqb _ _ t)) ∙ sym pair-there
+
+  pub pair-later : at + 1 < length s → (getD s (at + 1) 0 ≡ d → ⊥) → findPair c d (at + 1) (drop (at + 1) s) ≡ findPair c d i (drop i s)
+  pair-later h t = pair-on c d s at h (simp (eq-eqb _ _ (reach-stop c s i at e (omega arith)), ne-eqb _ _ t)) ∙ sym pair-there
 
 -- where a byte was found: its place, and that it does not stand before
 pub byte-at : (c : ℕ) (s : List ℕ) (i : ℕ) → findByte c 0 s ≡ At i → (i < length s) × (getD s i 0 ≡ c) × (has c (take i s) ≡ false)

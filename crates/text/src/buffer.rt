@@ -1,4 +1,5 @@
 // Bytes put into a lent buffer from a place on; the rest of it stays.
+use super::number::at_most;
 ghost use mathlib.Core.List.{[], _∷_};
 ghost use Rattle.text.specs.Contract.{Wrote};
 
@@ -28,16 +29,14 @@ pub fn put_all(out: &mut [u8], n: usize, s: &[u8]) -> Filled
     if n > out.len() {
         return Filled::Full;
     }
-    let mut m = n;
+    let m = at_most(s.len(), out.len() - n);
     let mut i = 0;
-    while i < s.len() {
-        if m < out.len() {
-            out[m] = s[i];
-            m += 1;
-            i += 1;
-        } else {
-            return Filled::Full;
-        }
+    while i < m {
+        out[n + i] = s[i];
+        i += 1;
     }
-    Filled::Done(m)
+    if m < s.len() {
+        return Filled::Full;
+    }
+    Filled::Done(n + m)
 }

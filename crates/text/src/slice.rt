@@ -5,7 +5,7 @@ ghost use Prim.Native.Nat.{_+_, _≤_};
 ghost use mathlib.Core.Path.{_≡_};
 ghost use lib.ListN.{length, drop};
 ghost use Rattle.text.specs.Class.{nameByte};
-ghost use Rattle.text.specs.Lists.{all};
+ghost use Rattle.text.specs.Lists.{all, has};
 ghost use Rattle.text.specs.Slice.{same, startsWith, headIs, findPair};
 ghost use Rattle.text.specs.Contract.{findByte, lead};
 
@@ -54,25 +54,44 @@ pub fn head_is(s: &[u8], c: u8) -> bool
     s[0] == c
 }
 
-// The first place where c and then d stand.
-pub fn find_pair(s: &[u8], c: u8, d: u8) -> Found
-    ensures { λ r. ⌜ r ≡ findPair c d 0 (now (s .entry)) ⌝ }
+// How many bytes are looked at together.
+const BLOCK: usize = 16;
+
+// Whether c is among the bytes. Each is looked at, with no way out of the loop, so that many are at once.
+fn is_among(s: &[u8], c: u8) -> bool
+    ensures { λ r. ⌜ r ≡ has c (now (s .entry)) ⌝ }
 {
+    let mut found = false;
     let mut i = 0;
-    while i + 1 < s.len() {
-        if s[i] == c && s[i + 1] == d {
-            return Found::At(i);
-        }
+    while i < s.len() {
+        found = found | (s[i] == c);
         i += 1;
     }
-    Found::Nothing
+    found
+}
+
+// A place up to which no c stands from another on, whole blocks ahead.
+fn past_blocks(s: &[u8], from: usize, c: u8) -> usize
+    ensures { λ r. ⌜ (r + lead c (drop r (now (s .entry))) ≡ from + lead c (drop from (now (s .entry)))) × (from ≤ r) × (from ≤ length (now (s .entry)) → r ≤ length (now (s .entry))) ⌝ }
+{
+    let mut i = from;
+    while i < s.len() {
+        if s.len() - i < BLOCK {
+            return i;
+        }
+        if is_among(&s[i..i + BLOCK], c) {
+            return i;
+        }
+        i += BLOCK;
+    }
+    i
 }
 
 // The place of the first byte c from a place on, or the end.
 pub fn byte_from(s: &[u8], from: usize, c: u8) -> usize
     ensures { λ r. ⌜ (r ≡ from + lead c (drop from (now (s .entry)))) × (from ≤ r) × (from ≤ length (now (s .entry)) → r ≤ length (now (s .entry))) ⌝ }
 {
-    let mut i = from;
+    let mut i = past_blocks(s, from, c);
     while i < s.len() {
         if s[i] == c {
             return i;
@@ -80,6 +99,24 @@ pub fn byte_from(s: &[u8], from: usize, c: u8) -> usize
         i += 1;
     }
     i
+}
+
+// The first place where c and then d stand.
+pub fn find_pair(s: &[u8], c: u8, d: u8) -> Found
+    ensures { λ r. ⌜ r ≡ findPair c d 0 (now (s .entry)) ⌝ }
+{
+    let mut i = 0;
+    while i < s.len() {
+        let at = byte_from(s, i, c);
+        if s.len() - at < 2 {
+            return Found::Nothing;
+        }
+        if s[at + 1] == d {
+            return Found::At(at);
+        }
+        i = at + 1;
+    }
+    Found::Nothing
 }
 
 // The first place where c stands.
