@@ -12,6 +12,7 @@ use lib.ListN.{length, take, drop, getD, drop-of-length-le}
 use lib.Seq.{drop-cons, drop-drop, getD-drop}
 use Rattle.text.specs.Bytes.{byte, is}
 use Rattle.text.specs.Class.{blank}
+use Rattle.text.specs.Contract.{lead}
 use Rattle.text.proofs.Laws.{next, clash, both-no, both-true}
 use Rattle.line.specs.Joined.{Mode, JoinedByte, begins, leading, gives, joins, joinBlank, modeAfter, modeJoined, joinedFrom, indented}
 use Rattle.line.specs.Contract.{joinsAt, joinedAt}
@@ -90,6 +91,16 @@ module _ (f : ℕ → Bool) (s : List ℕ) (i : ℕ) where
   pub leading-end : length s ≤ i → i ≡ i + leading f (drop i s)
   unfolding leading
   leading-end h = rw (drop-of-length-le s) (omega arith)
+
+-- the bytes in front of the first c are those that pass where c does not
+pub lead-leading : (c : ℕ) (s : List ℕ) → lead c s ≡ leading (λ b. not (eqb b c)) s
+unfolding lead leading
+lead-leading c [] = refl
+lead-leading c (b ∷ s) = go (eqb b c) (lead-leading c s)
+  where
+    go : (t : Bool) → lead c s ≡ leading (λ d. not (eqb d c)) s → cond t 0 (suc (lead c s)) ≡ cond (not t) (suc (leading (λ d. not (eqb d c)) s)) 0
+    go true e = refl
+    go false e = ap suc e
 
 -- ---- at a place
 joined-over : (hash : Bool) (m : Mode) (line : List ℕ) (i n : ℕ) → i ≤ length line → joinedFrom hash n m (getD (byte "\n" ∷ line) i 0) (drop i line) ≡ joinedAt hash m line (i + n)

@@ -11,6 +11,7 @@ use lib.Seq.{drop-drop}
 use Rattle.text.specs.Bytes.{byte, is}
 use Rattle.text.specs.Buffer.{laid}
 use Rattle.text.specs.Class.{blank, wordByte}
+use Rattle.text.specs.Contract.{lead}
 use Rattle.text.specs.Quote.{quotingAfter}
 use Rattle.text.specs.declared.quote.Quoting.{Quoting}
 use Rattle.text.specs.declared.quote.Quoting.the-variants.{Outside, Single, Double}
@@ -18,12 +19,12 @@ use Rattle.text.proofs.Laws.{clash, both-true, either-assoc, not-both, part-len
 use Rattle.line.specs.declared.counts.Counts.{Counts}
 use Rattle.line.specs.declared.mode.ScanMode.{ScanMode}
 use Rattle.line.specs.declared.mode.ScanMode.the-variants.{Fields, Comment}
-use Rattle.line.specs.declared.run.Run.the-variants.{Blanks, Plain, NoBackslash}
+use Rattle.line.specs.declared.run.Run.the-variants.{Blanks, Plain}
 use Rattle.line.specs.declared.scanner.Scanner.{Scanner}
 use Rattle.line.specs.Joined.{Mode, inFields, inComment, JoinedByte, kept, between, begins, leading, unquoted, partsFields, gives, joinBlank, modeAfter, modeJoined, indented}
 use Rattle.line.specs.Scan.{quotingAtEnd}
 use Rattle.line.specs.Contract.{modeOf, quotingOf, joinsAt, inRun, Progress, progress, closedIf, closedOff, longer, absorbed, absorbedAll, Few, Bounded, joinedAhead, joinedAt, Goes}
-use Rattle.line.proofs.JoinedLaws.{Steady, at-byte, at-join, at-run, indented-byte, indented-join, indented-run, begins-leading}
+use Rattle.line.proofs.JoinedLaws.{Steady, at-byte, at-join, at-run, indented-byte, indented-join, indented-run, begins-leading, lead-leading}
 use Rattle.line.proofs.ProgressLaws.{closed-of, quoting-byte, quoting-join, quoting-run, absorbed-append, absorbed-kept}
 
 -- ---- the counts stay few
@@ -86,8 +87,8 @@ steady-plain = record {
     told : (b : ℕ) → ltb 39 b && not (is "\\" b) ≡ true → (39 < b) × (is "\\" b ≡ false)
     told b e = let d = both-true (ltb 39 b) (not (is "\\" b)) e in (ltb-true 39 b (d .0), not-true _ (d .1))
 
-steady-comment : Steady (inRun NoBackslash) inComment (λ b. between)
-unfolding inRun modeAfter partsFields
+steady-comment : Steady (λ b. not (is "\\" b)) inComment (λ b. between)
+unfolding modeAfter partsFields
 steady-comment = record { joinless = λ b e. not-true _ e; stays = λ b e. refl; mark = λ b e. refl }
 
 map-same : (s : List ℕ) → map (λ b. between) s ≡ replicate (length s) between
@@ -163,7 +164,7 @@ module _ {line : List ℕ} {s : Scanner} {text ends : List ℕ} where
     goes-plain end e d k t =
         goes-run steady-plain e end d k (rw t (sym (absorbed-kept (progress (s .counts) text ends) (take (end - s .at) (drop (s .at) line)) ∙ rw (part-length line (s .at) end k))))
 
-    pub goes-comment : {n : Counts} {ends′ : List ℕ} (end : ℕ) → modeOf (s .mode) ≡ inComment → end ≡ s .at + leading (inRun NoBackslash) (drop (s .at) line) → end ≤ length line → progress n text ends′ ≡ absorbedAll (progress (s .counts) text ends) (replicate (end - s .at) between)
+    pub goes-comment : {n : Counts} {ends′ : List ℕ} (end : ℕ) → modeOf (s .mode) ≡ inComment → end ≡ s .at + lead (byte "\\") (drop (s .at) line) → end ≤ length line → progress n text ends′ ≡ absorbedAll (progress (s .counts) text ends) (replicate (end - s .at) between)
         → Goes line s text ends (record { at = end; mode = Comment; counts = n; bare = s .bare; hash = s .hash }) text ends′
     goes-comment end e d k p =
-        goes-run steady-comment e end d k (p ∙ ap (absorbedAll (progress (s .counts) text ends)) (sym (map-same (take (end - s .at) (drop (s .at) line)) ∙ rw (part-length line (s .at) end k))))
+        goes-run steady-comment e end (d ∙ rw (lead-leading (byte "\\") (drop (s .at) line))) k (p ∙ ap (absorbedAll (progress (s .counts) text ends)) (sym (map-same (take (end - s .at) (drop (s .at) line)) ∙ rw (part-length line (s .at) end k))))

@@ -21,7 +21,7 @@ use Rattle.line.specs.declared.counts.Counts.{Counts}
 use Rattle.line.specs.declared.mode.ScanMode.{ScanMode}
 use Rattle.line.specs.declared.mode.ScanMode.the-variants.{Fields, Comment}
 use Rattle.line.specs.declared.run.Run.{Run}
-use Rattle.line.specs.declared.run.Run.the-variants.{Blanks, Plain, NoBackslash}
+use Rattle.line.specs.declared.run.Run.the-variants.{Blanks, Plain}
 use Rattle.line.specs.declared.scan.ScannedLine.{ScannedLine}
 use Rattle.line.specs.declared.scan.ScannedLine.the-variants.{Good, Fault}
 use Rattle.line.specs.declared.scanner.Scanner.{Scanner}
@@ -78,7 +78,6 @@ joinsAt (b ∷ s) = joins b s
 unfoldable pub inRun : Run → ℕ → Bool
 inRun Blanks b = blank b
 inRun Plain b = ltb 39 b && not (is "\\" b)
-inRun NoBackslash b = not (is "\\" b)
 
 -- ---- what has been laid
 pub record Progress : Type 0 where

@@ -10,8 +10,6 @@ pub enum Run {
     Blanks,
     // Bytes of a field outside quotes: above the quotes, and no backslash.
     Plain,
-    // Bytes of a comment up to where a join may stand.
-    NoBackslash,
 }
 
 fn is_in(run: Run, b: u8) -> bool
@@ -20,7 +18,6 @@ fn is_in(run: Run, b: u8) -> bool
     match run {
         Run::Blanks => is_blank(b),
         Run::Plain => (b > b'\'') & (b != b'\\'),
-        Run::NoBackslash => b != b'\\',
     }
 }
 

@@ -8,6 +8,7 @@ use super::run::Run;
 use super::run::run_end;
 use text::buffer::put_all;
 use text::quote::Quoting;
+use text::slice::byte_from;
 ghost use Prim.Native.Nat.{ℕ, _<_, _≤_};
 ghost use mathlib.Core.Path.{_≡_};
 ghost use mathlib.Core.Bool.{true, false};
@@ -144,7 +145,7 @@ impl Scanner {
     {
         let at = self.at;
         let had = self.counts;
-        let end = run_end(line, at, Run::NoBackslash);
+        let end = byte_from(line, at, b'\\');
         if end == at {
             return self;
         }
