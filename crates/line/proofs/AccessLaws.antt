@@ -65,6 +65,11 @@ module _ (text ends : List ℕ) (count : ℕ) where
     unfolding fieldsIn
     field-here s e h f g = clamped text (getD (0 ∷ ends) i 0) (getD ends i 0) s e f g ∙ sym (at-number text 0 ends (min count 64) i h)
 
+    -- its bounds as they are told
+    pub field-part : i < min count 64 → getD (fieldsIn text ends count) i [] ≡ take (getD ends i 0 - getD (0 ∷ ends) i 0) (drop (getD (0 ∷ ends) i 0) text)
+    unfolding fieldsIn
+    field-part h = at-number text 0 ends (min count 64) i h
+
     -- ---- the kind of line
     pub kind-none : min count 64 ≤ i → NoField ≡ kindOfLine (drop i (fieldsIn text ends count))
     unfolding kindOfLine

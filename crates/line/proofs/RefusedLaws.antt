@@ -44,16 +44,6 @@ module _ (t : List ℕ) (i : ℕ) where
   unfolding refusedFrom
   refused-end h = rw (drop-of-length-le t)
 
-  -- all bytes looked at
-  pub accepted-on : (good r : Bool) → i < length t → r ≡ accepted (getD t i 0) → good && r && all accepted (drop (i + 1) t) ≡ good && all accepted (drop i t)
-  unfolding all
-  accepted-on true r h e = rw (next t i, e)
-  accepted-on false r h e = refl
-
-  pub accepted-end : (good : Bool) → length t ≤ i → good ≡ good && all accepted (drop i t)
-  unfolding all
-  accepted-end good h = rw (drop-of-length-le t) (sym (both-yes good))
-
 -- where all are accepted there is none to find
 accepted-from : (at : ℕ) (t : List ℕ) → all accepted t ≡ true → refusedFrom at t ≡ none
 unfolding all refusedFrom

@@ -8,12 +8,13 @@ use native.Mathlib.Omega.{arith}
 use borrow.Author.Tests.{eq-eqb}
 use lib.Dec.{eqb}
 use lib.ListN.{length, take, drop, getD, drop-of-length-le}
+use lib.Seq.{take-nil}
 use Rattle.text.specs.Lists.{all, any, has}
 use Rattle.text.specs.Contract.{findByte}
 use Rattle.text.specs.Parts.{partAt}
 use Rattle.text.specs.declared.slice.Found.the-variants.{At, Nothing}
 use Rattle.text.proofs.Leads.{found-parts, found-none}
-use Rattle.text.proofs.Laws.{next-of, both-assoc, either-of, either-assoc, part-start, part-rest}
+use Rattle.text.proofs.Laws.{next-of, both-true, both-yes, both-assoc, either-of, either-assoc, part-start, part-rest}
 
 -- a turn of a loop that asks each element, with z for what stands past the end
 module _ {A : Type 0} (z : A) (f : A → Bool) (s : List A) (i : ℕ) where
@@ -24,6 +25,12 @@ module _ {A : Type 0} (z : A) (f : A → Bool) (s : List A) (i : ℕ) where
   pub all-off : i < length s → f (getD s i z) ≡ false → false ≡ all f (drop i s)
   unfolding all
   all-off h t = rw (next-of z s i, t)
+
+  -- all elements looked at
+  pub all-so-far : (good r : Bool) → i < length s → r ≡ f (getD s i z) → good && r && all f (drop (i + 1) s) ≡ good && all f (drop i s)
+  unfolding all
+  all-so-far true r h e = rw (next-of z s i, e)
+  all-so-far false r h e = refl
 
   pub any-on : i < length s → f (getD s i z) ≡ false → any f (drop (i + 1) s) ≡ any f (drop i s)
   unfolding any
@@ -38,6 +45,10 @@ module _ {A : Type 0} (f : A → Bool) (s : List A) (i : ℕ) where
   unfolding all
   all-end h = rw (drop-of-length-le s)
 
+  pub all-at-end : (good : Bool) → length s ≤ i → good ≡ good && all f (drop i s)
+  unfolding all
+  all-at-end good h = rw (drop-of-length-le s) (sym (both-yes good))
+
   pub any-end : length s ≤ i → false ≡ any f (drop i s)
   unfolding any
   any-end h = rw (drop-of-length-le s)
@@ -47,6 +58,21 @@ module _ {A : Type 0} (f : A → Bool) where
   unfolding all
   all-append [] ys = refl
   all-append (x ∷ xs) ys = rw (all-append xs ys) (sym (both-assoc (f x) (all f xs) (all f ys)))
+
+  all-front : (m k : ℕ) (t : List A) → k ≤ m → all f (take m t) ≡ true → all f (take k t) ≡ true
+  unfolding all
+  all-front m zero t h e = refl
+  all-front zero (suc k) t h e = absurd (omega arith)
+  all-front (suc m) (suc k) [] h e = refl
+  all-front (suc m) (suc k) (x ∷ t) h e = let d = both-true (f x) (all f (take m t)) e in rw (d .0, all-front m k t (omega arith) (d .1))
+
+  -- a part of a beginning
+  pub all-part : (m k i : ℕ) (t : List A) → i + k ≤ m → all f (take m t) ≡ true → all f (take k (drop i t)) ≡ true
+  unfolding all
+  all-part m k zero t h e = all-front m k t (omega arith) e
+  all-part zero k (suc i) t h e = absurd (omega arith)
+  all-part (suc m) k (suc i) [] h e = rw (take-nil {A = A} k)
+  all-part (suc m) k (suc i) (x ∷ t) h e = all-part m k i t (omega arith) (both-true (f x) (all f (take m t)) e .1)
 
   pub any-append : (xs ys : List A) → any f (xs ++ ys) ≡ any f xs || any f ys
   unfolding any
