@@ -3,22 +3,24 @@ use mathlib.Core.Path.{_≡_, refl, sym, ap, _∙_}
 use mathlib.Core.Bool.{Bool, true, false, not, _&&_}
 use mathlib.Core.List.{List, [], _∷_}
 use mathlib.Core.Option.{some, Option·map}
-use Prim.Native.Nat.{ℕ, _+_, _≤_, _<_, min}
+use Prim.Native.Nat.{ℕ, _+_, _-_, _≤_, _<_, min}
 use native.Mathlib.Omega.{arith}
-use borrow.Author.Tests.{not-true, not-false, le-leb}
+use native.Mathlib.Decide.{decLe}
+use borrow.Author.Tests.{not-true, not-false, le-leb, leb-true}
 use lib.Dec.{leb}
 use lib.ListN.{length, take, drop, getD, drop-of-length-le}
-use Rattle.text.specs.Lists.{null}
-use Rattle.text.proofs.Laws.{next-of, clash}
+use Rattle.text.specs.Lists.{null, all}
+use Rattle.text.proofs.Laws.{next-of, clash, both-true}
+use Rattle.text.proofs.Lists.{all-part}
 use Rattle.fault.specs.Fault.{Reading, fault, value, andThen, require}
 use Rattle.fault.specs.declared.Cause.{Cause}
 use Rattle.fault.specs.declared.Cause.the-variants.{FieldLength, MissingPart, OptionTwice}
 use Rattle.fault.proofs.Readings.{and-then}
 use Rattle.line.specs.Contract.{fieldsIn}
-use Rattle.line.proofs.AccessLaws.{fields-count}
+use Rattle.line.proofs.AccessLaws.{fields-count, field-part}
 use Rattle.variables.specs.Scope.{Scope}
 use Rattle.variables.specs.Substitute.{fieldText}
-use Rattle.variables.specs.Contract.{verbatim, Substitutes}
+use Rattle.variables.specs.Contract.{literal, verbatim, Substitutes}
 use Rattle.variables.specs.declared.field.FieldText.{FieldText}
 use Rattle.variables.proofs.TextLaws.{text-fault, text-value, text-short}
 use Rattle.variables.proofs.VerbatimLaws.{verbatim-text}
@@ -84,6 +86,18 @@ module _ (judge : Judge) (s : Scope) (e : Entry) (p : Position) (f : List ℕ) (
 
   after-value : {x : FieldRead} → andThen (fieldText s f) (fieldOf judge p) ≡ value x → entryAfter judge s e p (f ∷ fs) ≡ entryAfter judge s (followed e (x .part)) (x .next) fs
   after-value {x} q = let u = and-then (fieldText s f) (fieldOf judge p) x q in entry-on judge s e p f fs (u .1) (u .2)
+
+-- a field that ends where the text has no quote and no `$`
+pub field-verbatim : (text ends : List ℕ) (count i most reach : ℕ) (plain : Bool) → plain ≡ verbatim (take reach text) → most ≡ min count 64 → i < most → plain && leb (getD ends i 0) reach ≡ true → verbatim (getD (fieldsIn text ends count) i []) ≡ true
+unfolding verbatim all
+field-verbatim text ends count i most reach plain v g h t =
+    let d = both-true plain (leb (getD ends i 0) reach) t in
+    let l = leb-true (getD ends i 0) reach (d .1) in
+    let s = getD (0 ∷ ends) i 0 in
+    rw (field-part text ends count i (omega arith)) (elim (decLe s (getD ends i 0)) [
+      | yes k ↦ all-part literal reach (getD ends i 0 - s) s text (omega arith) (sym v ∙ d .0)
+      | no k ↦ let z : getD ends i 0 - s ≡ 0 = omega arith in rw z
+    ])
 
 -- a place before the last field that is counted, and one past it
 module _ (text ends : List ℕ) (count : ℕ) {most i : ℕ} (g : most ≡ min count 64) where

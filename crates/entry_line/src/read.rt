@@ -4,6 +4,7 @@ use entry::entry::Entry;
 use entry::entry::FieldOutcome;
 use fault::Cause;
 use line::fields::field;
+use line::fields::start_of;
 use line::scan::ScannedLine;
 use question::WeekMinute;
 use text::number::at_most;
@@ -13,13 +14,14 @@ use variables::field::field_text;
 use variables::field::is_verbatim;
 ghost use Prim.Native.Nat.{ℕ};
 ghost use mathlib.Core.Path.{_≡_};
+ghost use mathlib.Core.Bool.{true};
 ghost use mathlib.Core.List.{List};
-ghost use lib.ListN.{drop};
+ghost use lib.ListN.{drop, take};
 ghost use Rattle.fault.specs.Fault.{andThen};
 ghost use Rattle.line.specs.Contract.{fieldsIn};
 ghost use Rattle.question.specs.Contract.{stringsIn};
 ghost use Rattle.variables.specs.Substitute.{fieldText};
-ghost use Rattle.variables.specs.Contract.{scopeIn};
+ghost use Rattle.variables.specs.Contract.{scopeIn, verbatim};
 ghost use Rattle.condition.specs.Condition.{judgeOf};
 ghost use Rattle.entry.specs.Field.{Entry as Held, Position as Stand, fieldOf};
 ghost use Rattle.entry.specs.Entry.{entryOf};
@@ -35,11 +37,30 @@ pub enum EntryAction {
     Accepts(usize, usize),
 }
 
+// Whether a text has no quote and no `$` up to a place.
+fn is_plain(text: &[u8], reach: usize) -> bool
+    ensures { λ r. ⌜ r ≡ verbatim (take reach (now (text .entry))) ⌝ }
+{
+    is_verbatim(&text[..at_most(reach, text.len())])
+}
+
+// Whether a field has neither; it is not looked at again where it is known.
+fn stays(known: bool, field: &[u8]) -> bool
+    requires { ⌜ (known ≡ true → verbatim (now field) ≡ true) ⌝ }
+    ensures { λ r. ⌜ r ≡ verbatim (now (field .entry)) ⌝ }
+{
+    if known {
+        return true;
+    }
+    is_verbatim(field)
+}
+
 // One field more, as it is written: where it is its own text, nothing is copied.
 fn add_field<'a>(
     entry: Entry,
     index: usize,
     field: &[u8],
+    known: bool,
     judging: bool,
     command: &[u8],
     user: &[u8],
@@ -51,9 +72,10 @@ fn add_field<'a>(
     names: usize,
     scratch: &mut [u8; FieldText::BYTES],
 ) -> Added
+    requires { ⌜ (known ≡ true → verbatim (now field) ≡ true) ⌝ }
     ensures { λ r. ⌜ ((t : ℕ → List ℕ) (p : Stand) (e : Held) → t index ≡ textOr (now (field .entry)) (fieldText (scopeIn (now (user .entry)) (now (host .entry)) (now (bytes .entry)) (now (sizes .entry)) names) (now (field .entry))) → Holds judging (now (command .entry)) t entry p e → Adds judging (now (command .entry)) t e (andThen (fieldText (scopeIn (now (user .entry)) (now (host .entry)) (now (bytes .entry)) (now (sizes .entry)) names) (now (field .entry))) (fieldOf (judgeOf (now (user .entry)) (stringsIn (now (groups .entry))) (now (host .entry)) (minute .0)) p)) r) ⌝ }
 {
-    if is_verbatim(field) {
+    if stays(known, field) {
         return entry.add(index, field, judging, command, user, groups, host, minute);
     }
     match field_text(bytes, sizes, names, user, host, field, scratch) {
@@ -97,6 +119,8 @@ fn read_fields<'a, 'b>(
     ensures { λ r. ⌜ Reads judging (now (command .entry)) (textsIn (scopeIn (now (user .entry)) (now (host .entry)) (now (bytes .entry)) (now (sizes .entry)) names) (fieldsIn (now (text .entry)) (now (ends .entry)) count)) (entryOf (judgeOf (now (user .entry)) (stringsIn (now (groups .entry))) (now (host .entry)) (minute .0)) (scopeIn (now (user .entry)) (now (host .entry)) (now (bytes .entry)) (now (sizes .entry)) names) (drop from (fieldsIn (now (text .entry)) (now (ends .entry)) count))) r ⌝ }
 {
     let most = at_most(count, ScannedLine::FIELDS);
+    let reach = start_of(ends, most);
+    let plain = is_plain(text, reach);
     let mut entry = Entry::new();
     let mut i = from;
     while i < most {
@@ -104,6 +128,7 @@ fn read_fields<'a, 'b>(
             entry,
             i,
             field(text, ends, count, i),
+            plain & (ends[i] <= reach),
             judging,
             command,
             user,
