@@ -5,11 +5,11 @@ use mathlib.Core.List.{List, [], _∷_}
 use mathlib.Core.Option.{none, some}
 use Prim.Native.Nat.{ℕ, suc, _+_, _-_, _≤_, _<_}
 use native.Mathlib.Omega.{arith}
-use borrow.Author.Tests.{ne-eqb, eqb-true}
-use lib.Dec.{eqb}
+use borrow.Author.Tests.{ne-eqb, eqb-true, ltb-true}
+use lib.Dec.{eqb, ltb}
 use lib.ListN.{length, take, drop, getD, drop-of-length-le, length-drop}
 use lib.Seq.{take-all}
-use Rattle.text.specs.Lists.{has, onto}
+use Rattle.text.specs.Lists.{any, has, onto}
 use Rattle.text.specs.Slice.{headIs}
 use Rattle.text.specs.Contract.{findByte}
 use Rattle.text.specs.declared.slice.Found.the-variants.{At}
@@ -19,7 +19,7 @@ use Rattle.glob.specs.declared.alternative.ByteContext.{ByteContext}
 use Rattle.glob.specs.declared.alternative.ByteContext.the-variants.{Free, Escaped, InSet}
 use Rattle.glob.specs.declared.alternative.Parted.the-variants.{Malformed, Name, NameAtHost}
 use Rattle.glob.specs.Alternative.{contextAfter, partsAt, partedBy, partsOf, goodPart, fromParts, alternativeOf}
-use Rattle.glob.specs.Contract.{partsBy, PartsFrom, TellsAlternative}
+use Rattle.glob.specs.Contract.{partsBy, PartsFrom, Simple, SimpleName, TellsAlternative}
 use Rattle.text.proofs.Laws.{next, part-rest}
 
 -- ---- the place behind a byte
@@ -168,3 +168,43 @@ module _ (a : List ℕ) where
 
         pub part-bad-host : length a ≤ e → goodPart (drop (at + 1) a) ≡ false → TellsAlternative a Malformed
         part-bad-host k f = record { within = tt; same = sym (from-parts _ (two-only k) ∙ rw (g, f)) }
+
+-- ---- bytes that are one part
+module _ (b : ℕ) where
+  pub simple-high : 92 < b → ltb b 126 ≡ true → Simple b
+  simple-high h e = let k = ltb-true b 126 e in record { no-colon = λ z. omega arith; no-tilde = λ z. omega arith; no-at = λ z. omega arith; no-slash = λ z. omega arith; no-bracket = λ z. omega arith }
+
+  pub simple-middle : 64 < b → ltb b 91 ≡ true → Simple b
+  simple-middle h e = let k = ltb-true b 91 e in record { no-colon = λ z. omega arith; no-tilde = λ z. omega arith; no-at = λ z. omega arith; no-slash = λ z. omega arith; no-bracket = λ z. omega arith }
+
+  pub simple-low : ltb b 58 ≡ true → Simple b
+  simple-low e = let k = ltb-true b 58 e in record { no-colon = λ z. omega arith; no-tilde = λ z. omega arith; no-at = λ z. omega arith; no-slash = λ z. omega arith; no-bracket = λ z. omega arith }
+
+simple-none : SimpleName []
+unfolding has any partsOf
+simple-none = record { no-colon = refl; no-tilde = refl; one = refl }
+
+simple-more : (b : ℕ) (s : List ℕ) → Simple b → SimpleName s → SimpleName (b ∷ s)
+unfolding has any partsOf partsAt
+simple-more b s w v = record {
+  no-colon = rw (ne-eqb b 58 (w .no-colon)) (v .no-colon);
+  no-tilde = rw (ne-eqb b 126 (w .no-tilde)) (v .no-tilde);
+  one = rw (ne-eqb b 64 (w .no-at), ← context-free b (w .no-slash) (w .no-bracket), v .one);
+}
+
+-- a turn of a loop that looks at each byte
+module _ (a : List ℕ) (i : ℕ) where
+  pub simple-on : i < length a → Simple (getD a i 0) → SimpleName (drop (i + 1) a) → SimpleName (drop i a)
+  simple-on h w v = rw (next a i h) (simple-more (getD a i 0) (drop (i + 1) a) w v)
+
+  pub simple-end : length a ≤ i → SimpleName (drop i a)
+  simple-end h = rw (drop-of-length-le a h) simple-none
+
+module _ (a : List ℕ) (w : SimpleName a) where
+  pub simple-good : goodPart a ≡ true → TellsAlternative a Name
+  unfolding alternativeOf
+  simple-good g = record { within = tt; same = rw (w .no-colon, w .no-tilde, w .one, g) }
+
+  pub simple-bad : goodPart a ≡ false → TellsAlternative a Malformed
+  unfolding alternativeOf
+  simple-bad g = record { within = tt; same = rw (w .no-colon, w .no-tilde, w .one, g) }

@@ -1,12 +1,13 @@
 -- What only contracts and proofs cite: the answers of the functions hold places, those of the definitions lists.
 use Prim.Native.Nat.{ℕ, suc, _+_, _-_, _≤_, _<_}
 use mathlib.Core.Path.{_≡_}
-use mathlib.Core.Bool.{cond}
+use mathlib.Core.Bool.{false, cond}
 use mathlib.Core.List.{List, [], _∷_}
 use mathlib.Core.Option.{Option, none, some}
 use lib.Dec.{eqb}
 use lib.ListN.{length, drop, take, getD}
 use Rattle.text.specs.Class.{range}
+use Rattle.text.specs.Lists.{has}
 use Rattle.glob.specs.Set.{ranges}
 use Rattle.glob.specs.Alternative.{Alternative, partsOf, alternativeOf}
 use Rattle.glob.specs.declared.alternative.ByteContext.{ByteContext}
@@ -30,6 +31,20 @@ pub record PartsFrom (w : ByteContext) (a : List ℕ) (from r : ℕ) : Type 0 wh
   pub low : from ≤ r
   pub high : r ≤ length a
   pub parts : partsOf w (drop from a) ≡ partsBy (take (r - from) (drop from a)) (drop r a)
+
+-- a byte that is no colon, no `~`, no `@`, no backslash and no bracket
+pub record Simple (c : ℕ) : Type 0 where
+  pub no-colon : c ≡ 58 → ⊥
+  pub no-tilde : c ≡ 126 → ⊥
+  pub no-at : c ≡ 64 → ⊥
+  pub no-slash : c ≡ 92 → ⊥
+  pub no-bracket : c ≡ 91 → ⊥
+
+-- bytes that are one part, without a colon or a `~`
+pub record SimpleName (a : List ℕ) : Type 0 where
+  pub no-colon : has 58 a ≡ false
+  pub no-tilde : has 126 a ≡ false
+  pub one : partsOf Free a ≡ a ∷ []
 
 -- the alternative that an answer tells
 abbrev pub partedIn : List ℕ → Parted → Option Alternative

@@ -2,11 +2,12 @@
 use text::slice::Found;
 use text::slice::find_byte;
 ghost use mathlib.Core.Path.{_≡_};
+ghost use mathlib.Core.Bool.{true};
 ghost use Prim.Native.Nat.{_≤_, _<_};
 ghost use lib.ListN.{length};
 ghost use Rattle.text.specs.Lists.{has};
 ghost use Rattle.glob.specs.Alternative.{contextAfter, partsAt, goodPart, alternativeOf};
-ghost use Rattle.glob.specs.Contract.{PartsFrom, TellsAlternative};
+ghost use Rattle.glob.specs.Contract.{PartsFrom, Simple, SimpleName, TellsAlternative};
 
 // Whether the next byte is free, behind a backslash, or in a set.
 pub enum ByteContext {
@@ -94,8 +95,36 @@ fn good_part(a: &[u8]) -> bool
     a[0] != b'!'
 }
 
-// The name and the host of one brace-free expansion of a condition.
-pub fn part(a: &[u8]) -> Parted
+// Whether a byte is no colon and no `~`, parts nothing, and begins neither an escape nor a set; most bytes are such, and
+// this tells it soonest.
+fn is_simple(b: u8) -> bool
+    ensures { λ r. ⌜ (r ≡ true → Simple b) ⌝ }
+{
+    if b > b'\\' {
+        return b < b'~';
+    }
+    if b > b'@' {
+        return b < b'[';
+    }
+    b < b':'
+}
+
+// Whether all bytes are such.
+fn all_simple(a: &[u8]) -> bool
+    ensures { λ r. ⌜ (r ≡ true → SimpleName (now (a .entry))) ⌝ }
+{
+    let mut i = 0;
+    while i < a.len() {
+        if !is_simple(a[i]) {
+            return false;
+        }
+        i += 1;
+    }
+    true
+}
+
+// The name and the host of any bytes, parted in their context.
+fn part_in_context(a: &[u8]) -> Parted
     ensures { λ r. ⌜ TellsAlternative (now (a .entry)) r ⌝ }
 {
     if has_byte(a, b':') {
@@ -117,6 +146,19 @@ pub fn part(a: &[u8]) -> Parted
     }
     if good_part(&a[host..]) {
         return Parted::NameAtHost(at);
+    }
+    Parted::Malformed
+}
+
+// The name and the host of one brace-free expansion of a condition.
+pub fn part(a: &[u8]) -> Parted
+    ensures { λ r. ⌜ TellsAlternative (now (a .entry)) r ⌝ }
+{
+    if !all_simple(a) {
+        return part_in_context(a);
+    }
+    if good_part(a) {
+        return Parted::Name;
     }
     Parted::Malformed
 }
