@@ -1,8 +1,8 @@
 -- The alternatives of the top level, one after the other as they stand. Assumes nothing.
 use mathlib.Core.Path.{_≡_, refl, sym, ap, _∙_}
-use mathlib.Core.Bool.{true, false}
+use mathlib.Core.Bool.{false}
 use mathlib.Core.List.{List, [], _∷_, _++_, append-nil}
-use Prim.Native.Nat.{ℕ, _+_, _-_, _≤_, _<_, min}
+use Prim.Native.Nat.{ℕ, _+_, _-_, _≤_, _<_}
 use native.Mathlib.Omega.{arith}
 use native.Mathlib.Decide.{decLe}
 use borrow.Author.Tests.{ne-eqb}
@@ -17,9 +17,9 @@ use Rattle.pattern.specs.declared.Syntax.{Syntax}
 use Rattle.pattern.specs.declared.run.RunRead.the-variants.{Ends, Malformed as RunMalformed}
 use Rattle.pattern.specs.declared.braces.ListRead.the-variants.{Done}
 use Rattle.pattern.specs.declared.alternatives.Alternative.the-variants.{Flat, Braced}
-use Rattle.pattern.specs.Tree.{Tree, empty, or, number, expansions, TreeRead, parsed, malformed, bind, atEnd, afterOne, patternOf, listOf, expanded}
+use Rattle.pattern.specs.Tree.{Tree, empty, or, number, expansions, TreeRead, parsed, malformed, bind, afterOne, patternOf, listOf, expanded}
 use Rattle.pattern.specs.Whole.{expansionsOf}
-use Rattle.pattern.specs.Contract.{RunAt, Tells, nth, chosen, HasNumber, expansionsIn, EndsBefore, AlternativeAt}
+use Rattle.pattern.specs.Contract.{RunAt, Tells, chosen, HasNumber, expansionsIn, EndsBefore, AlternativeAt}
 use Rattle.pattern.proofs.TreeLaws.{list-first}
 use Rattle.pattern.proofs.Expanding.{told, wrapped, pieces-are, pieces-none}
 use Rattle.pattern.proofs.Expansions.{counts, nth-is}

@@ -246,6 +246,14 @@ flat-is syntax p e w g =
     expansions-are syntax p _ (expanded-good syntax p (wrapped (w .pieces) empty) q (fits-wrapped (w .pieces))) ∙ expansions-wrapped (w .pieces) ∙ rw z
 
 module _ (syntax : Syntax) (p : List ℕ) (e : expansionsOf syntax p ≡ p ∷ []) where
+  pub flat-expanded : expanded syntax p ≡ value (p ∷ [])
+  unfolding expansionsOf
+  flat-expanded = go (expanded syntax p) refl
+    where
+      go : (r : Reading Cause (List (List ℕ))) → expanded syntax p ≡ r → expanded syntax p ≡ value (p ∷ [])
+      go (fault c) q = let f = rw q at e in clash cc
+      go (value es) q = let f = rw q at e in q ∙ ap value f
+
   pub flat-matches : (s : List ℕ) → matches p s ≡ matchesSome (expansionsOf syntax p) s
   unfolding matchesSome any
   flat-matches s = rw e (sym (either-no (matches p s)))

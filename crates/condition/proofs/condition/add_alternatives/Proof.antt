@@ -1,56 +1,38 @@
-use native.Mathlib.Omega.{arith}
-use mathlib.Core.Path.{sym, _∙_}
+use mathlib.Core.Path.{_∙_}
 use Rattle.pattern.proofs.WholeLaws.{told-fault, told-number}
 use Rattle.pattern.proofs.TopLevel.{expanded-again}
 use Rattle.condition.proofs.ReadLaws.{pattern-fault, pattern-read, pattern-flat}
 use borrow.Author.Needs.{needs}
 use Rattle.condition.proofs.condition.add_alternatives.Statement.{statement}
 use Rattle.condition.proofs.condition.add_alternatives.Tie as tie
-use Rattle.condition.proofs.condition.add_alternatives.Reads as reads
-use Rattle.condition.proofs.condition.add_alternatives.Lts as lts
-use Rattle.condition.proofs.condition.add_all.Reads as add-all-reads
-use Rattle.condition.proofs.condition.add_one.Reads as add-one-reads
-use Rattle.condition.proofs.condition.kind_for.Reads as kind-for-reads
-use Rattle.pattern.proofs.reader.read_expansions.Reads as read-expansions-reads
-use Rattle.pattern.proofs.whole.is_flat.Reads as is-flat-reads
 
--- src/condition.rt:247:9
 kind-for-requires : tie.Need-kind-for-requires
 kind-for-requires c κs = search needs
 
--- src/condition.rt:248:8
 is-flat-requires : tie.Need-is-flat-requires
 is-flat-requires c κs = search needs
 
--- src/condition.rt:249:9
 add-one-requires : tie.Need-add-one-requires
 add-one-requires c κs = search needs
 
--- src/condition.rt:249:9
 returns : tie.Need-returns
 returns c = c .add-one .ensures ∙ pattern-flat _ _ _ _ _ _ (c .before .before .before .kind-for .ensures) (c .before .before .is-flat .ensures (c .before .if1 .taken))
 
--- src/condition.rt:251:11
 read-expansions-requires : tie.Need-read-expansions-requires
 read-expansions-requires c κs = search needs
 
--- src/condition.rt:252:25
 enum-known-cause : tie.Need-enum-known-cause
 enum-known-cause c = search needs
 
--- src/condition.rt:253:32
 enum-told : tie.Need-enum-told
 enum-told c = search needs
 
--- src/condition.rt:253:32
 add-all-requires : tie.Need-add-all-requires
 add-all-requires c κs = (c .before .before .before .before .before .before .before .before .before .before .pre, expanded-again _ _ (told-number _ _ _ (rw (c .enum-told .given .1) at (c .before .before .read-expansions .ensures)) .1))
 
--- src/condition.rt:233:1
 returns-2 : tie.Need-returns-2
 returns-2 c = pattern-fault _ _ _ _ _ _ (c .before .before .before .before .before .before .kind-for .ensures) (told-fault _ _ _ (rw (c .before .cause .given .1) at (c .before .before .before .read-expansions .ensures)))
 
--- src/condition.rt:233:1
 returns-3 : tie.Need-returns-3
 returns-3 c = c .add-all .ensures ∙ pattern-read _ _ _ _ _ _ (c .before .before .before .before .before .before .kind-for .ensures) (told-number _ _ _ (rw (c .before .enum-told .given .1) at (c .before .before .before .read-expansions .ensures)) .1)
 

@@ -18,10 +18,6 @@ use Rattle.condition.specs.declared.condition.Added.the-variants.{Fault,
 use Rattle.condition.proofs.AddedLaws.{each, each-end}
 use Rattle.condition.proofs.condition.add_braced.Statement.{statement}
 use Rattle.condition.proofs.condition.add_braced.Tie as tie
-use Rattle.condition.proofs.condition.add_braced.Reads as reads
-use Rattle.condition.proofs.condition.add_braced.Lts as lts
-use Rattle.condition.proofs.condition.add_one.Reads as add-one-reads
-use Rattle.pattern.proofs.alternatives.put_alternative.Reads as put-alternative-reads
 
 abbrev allAt : Syntax → List ℕ → ℕ → List (List ℕ)
 allAt syntax p at = expansionsIn (patternOf syntax false (drop at p))
@@ -32,75 +28,59 @@ Inv-loop syntax minute asks negated judging p at number user groups host out₀ 
 abbrev μ-loop : tie.MeasureT-loop
 μ-loop syntax minute asks negated judging p at number user groups host out₀ r₀ k₀ out r k = number - k
 
--- src/condition.rt:125:5
 loop-holds : tie.Need-loop-holds Inv-loop μ-loop
 loop-holds c = (length-replicate {A = ℕ} 1024 0, numbers-are (patternOf (c .before .before .before .before .args .syntax) false (drop (c .before .before .before .before .args .at) (c .before .before .before .before .args .p .now))) _ (c .before .before .before .before .pre .2), refl)
 
--- src/condition.rt:126:57
 slice-aggregate-put-alternative : tie.Need-slice-aggregate-put-alternative Inv-loop μ-loop
 slice-aggregate-put-alternative c = sym (c .before .before .loop .inv .0)
 
--- src/condition.rt:126:15
 put-alternative-requires : tie.Need-put-alternative-requires Inv-loop μ-loop
 put-alternative-requires c κs = search needs
 
--- src/condition.rt:127:26
 enum-known-n : tie.Need-enum-known-n Inv-loop μ-loop
 enum-known-n c = search needs
 
--- src/condition.rt:133:21
 array-share-prefix-out : tie.Need-array-share-prefix-out Inv-loop μ-loop
 array-share-prefix-out c = let w = c .before .before .before .before .put-alternative .ensures in omega (arith, wrote-done w (c .before .n .given .1) .0, wrote-length w)
 
--- src/condition.rt:133:21
 slice-aggregate-add-one : tie.Need-slice-aggregate-add-one Inv-loop μ-loop
 slice-aggregate-add-one c = let w = c .before .before .before .before .before .put-alternative .ensures in let d = wrote-done w (c .before .before .n .given .1) in sym (length-take-le _ _ (omega (arith, d .0, wrote-length w)))
 
--- src/condition.rt:128:23
 add-one-requires : tie.Need-add-one-requires Inv-loop μ-loop
 add-one-requires c κs = search needs
 
--- src/condition.rt:139:33
 enum-known-next : tie.Need-enum-known-next Inv-loop μ-loop
 enum-known-next c = search needs
 
--- src/condition.rt:141:25
 add-k : tie.Need-add-k Inv-loop μ-loop
 add-k c = omega arith
 
--- src/condition.rt:125:5
 loop-less : tie.Need-loop-less Inv-loop μ-loop
 loop-less c = omega arith
 
--- src/condition.rt:125:5
 loop-again : tie.Need-loop-again Inv-loop μ-loop
 loop-again c =
     let l = c .before .before .before .before .before .before .before .before .before .before .before .before .loop in
     let a = c .before .before .before .before .before .before .before .before .before .before .before .before .before .before .before .before .before .args in
     (wrote-length (c .before .before .before .before .before .before .before .before .before .put-alternative .ensures) ∙ l .inv .0, l .inv .1, each _ _ (allAt (a .syntax) (a .p .now) (a .at)) (l .k) (omega (arith, l .inv .1)) (c .before .before .before .before .before .before .before .before .before .put-alternative .ensures) (c .before .before .before .before .before .before .n .given .1) (Kept _) (sym (c .before .next .given .1) ∙ c .before .before .before .add-one .ensures) ∙ l .inv .2)
 
--- src/condition.rt:143:34
 enum-known-cause : tie.Need-enum-known-cause Inv-loop μ-loop
 enum-known-cause c = search needs
 
--- src/condition.rt:144:25
 returns : tie.Need-returns Inv-loop μ-loop
 returns c =
     let l = c .before .before .before .before .before .before .before .before .before .before .before .before .loop in
     let a = c .before .before .before .before .before .before .before .before .before .before .before .before .before .before .before .before .before .args in
     each _ _ (allAt (a .syntax) (a .p .now) (a .at)) (l .k) (omega (arith, l .inv .1)) (c .before .before .before .before .before .before .before .before .before .put-alternative .ensures) (c .before .before .before .before .before .before .n .given .1) (Fault _) (sym (c .before .cause .given .1) ∙ c .before .before .before .add-one .ensures) ∙ l .inv .2
 
--- src/condition.rt:149:37
 enum-told : tie.Need-enum-told Inv-loop μ-loop
 enum-told c = search needs
 
--- src/condition.rt:149:17
 returns-2 : tie.Need-returns-2 Inv-loop μ-loop
 returns-2 c =
     let a = c .before .before .before .before .before .before .before .before .before .before .before .args in
     absurd (never-full-at (a .syntax) (a .p .now) (a .at) (a .number) (c .before .before .before .before .before .before .loop .k) (c .before .before .before .before .before .before .before .before .before .before .before .pre .2) (c .before .before .before .before .before .loop-test .taken) (c .before .before .before .put-alternative .ensures) (omega (arith, c .before .before .before .before .before .before .before .before .before .before .before .pre .0)) (c .enum-told .given .1))
 
--- src/condition.rt:105:1
 returns-3 : tie.Need-returns-3 Inv-loop μ-loop
 returns-3 c =
     let l = c .before .loop in

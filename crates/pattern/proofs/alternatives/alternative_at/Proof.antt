@@ -4,56 +4,40 @@ use native.Mathlib.Omega.{arith}
 use borrow.Author.Needs.{needs}
 use Rattle.pattern.proofs.alternatives.alternative_at.Statement.{statement}
 use Rattle.pattern.proofs.alternatives.alternative_at.Tie as tie
-use Rattle.pattern.proofs.alternatives.alternative_at.Reads as reads
-use Rattle.pattern.proofs.alternatives.alternative_at.Lts as lts
-use Rattle.pattern.proofs.braces.pattern.Reads as pattern-reads
-use Rattle.pattern.proofs.run.run_at.Reads as run-at-reads
 
--- src/alternatives.rt:32:9
 returns : tie.Need-returns
 returns c = λ h. absurd (omega (arith, c .if1 .taken))
 
--- src/alternatives.rt:34:11
 run-at-requires : tie.Need-run-at-requires
 run-at-requires c κs = search needs
 
--- src/alternatives.rt:35:23
 enum-known-end : tie.Need-enum-known-end
 enum-known-end c = search needs
 
--- src/alternatives.rt:36:36
 enum-told : tie.Need-enum-told
 enum-told c = search needs
 
--- src/alternatives.rt:36:36
 pattern-requires : tie.Need-pattern-requires
 pattern-requires c κs = search needs
 
--- src/alternatives.rt:37:28
 enum-known-end-2 : tie.Need-enum-known-end-2
 enum-known-end-2 c = search needs
 
--- src/alternatives.rt:38:36
 enum-told-2 : tie.Need-enum-told-2
 enum-told-2 c = search needs
 
--- src/alternatives.rt:40:31
 enum-told-3 : tie.Need-enum-told-3
 enum-told-3 c = search needs
 
--- src/alternatives.rt:28:1
 returns-2 : tie.Need-returns-2
 returns-2 c = λ h. flat-told _ _ _ _ (rw (c .before .end .given .1) at (c .before .before .before .run-at .ensures))
 
--- src/alternatives.rt:28:1
 returns-3 : tie.Need-returns-3
 returns-3 c = λ h. braced-told _ _ _ _ _ _ (rw (c .before .end2 .given .1) at (c .before .before .before .pattern .ensures))
 
--- src/alternatives.rt:28:1
 returns-4 : tie.Need-returns-4
 returns-4 c = λ h. told-none _ _ _ (rw (c .enum-told2 .given .1) at (c .before .before .pattern .ensures))
 
--- src/alternatives.rt:28:1
 returns-5 : tie.Need-returns-5
 returns-5 c = λ h. run-malformed _ _ _ (rw (c .enum-told3 .given .1) at (c .before .before .run-at .ensures))
 

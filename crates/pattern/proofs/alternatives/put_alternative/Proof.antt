@@ -1,25 +1,18 @@
 use mathlib.Core.Bool.{false}
 use lib.ListN.{drop}
 use Rattle.pattern.specs.Tree.{patternOf}
-use native.Mathlib.Omega.{arith}
 use Rattle.pattern.proofs.TopLevel.{chosen-is}
 use Rattle.text.proofs.Buffers.{wrote-as}
 use borrow.Author.Needs.{needs}
 use Rattle.pattern.proofs.alternatives.put_alternative.Statement.{statement}
 use Rattle.pattern.proofs.alternatives.put_alternative.Tie as tie
-use Rattle.pattern.proofs.alternatives.put_alternative.Reads as reads
-use Rattle.pattern.proofs.alternatives.put_alternative.Lts as lts
-use Rattle.pattern.proofs.writer.put_pattern.Reads as put-pattern-reads
 
--- src/alternatives.rt:56:5
 put-pattern-requires : tie.Need-put-pattern-requires
 put-pattern-requires c κs = search needs
 
--- src/alternatives.rt:45:1
 same-length : tie.Need-same-length
 same-length c = search needs
 
--- src/alternatives.rt:45:1
 returns : tie.Need-returns
 returns c =
     let b = c .before .before .before .before .before .before in
