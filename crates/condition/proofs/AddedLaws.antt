@@ -1,10 +1,10 @@
 -- What is kept with the alternatives of a condition, taken one by one.
 use mathlib.Core.Path.{_≡_, refl, sym, ap, _∙_}
 use mathlib.Core.Bool.{Bool, true, false}
-use mathlib.Core.List.{List, [], _∷_}
+use mathlib.Core.List.{List, [], _∷_, _++_}
 use mathlib.Core.Option.{Option, none, some}
 use Prim.Native.Nat.{ℕ, _+_, _≤_, _<_}
-use lib.ListN.{length, take, drop, drop-of-length-le}
+use lib.ListN.{length, take, drop, getD, drop-of-length-le}
 use Rattle.text.specs.Contract.{Wrote}
 use Rattle.text.specs.declared.buffer.Filled.{Filled}
 use Rattle.text.specs.declared.buffer.Filled.the-variants.{Done}
@@ -13,8 +13,9 @@ use Rattle.text.proofs.Buffers.{wrote-read}
 use Rattle.fault.specs.Fault.{Reading, fault, value, andThen, needed, readAll}
 use Rattle.fault.specs.declared.Cause.{Cause}
 use Rattle.pattern.specs.declared.Syntax.{Syntax}
-use Rattle.pattern.specs.Whole.{expansionsOf}
-use Rattle.pattern.specs.Contract.{expansionAt}
+use Rattle.pattern.specs.Tree.{listOf}
+use Rattle.pattern.specs.Contract.{expansionsIn}
+use Rattle.pattern.proofs.TopLevel.{First}
 use Rattle.condition.specs.declared.rightmost.Rightmost.{Rightmost}
 use Rattle.condition.specs.declared.condition.Added.{Added}
 use Rattle.condition.specs.declared.condition.Added.the-variants.{Fault, Kept}
@@ -40,45 +41,51 @@ module _ (judge : Judge) (negated : Bool) (s : Sort) (e : List ℕ) (r : Rightmo
       go (some true) = refl
       go (some false) = refl
 
--- ---- one after the other
-module _ (f : List ℕ → Reading Cause Judged) (r : Rightmost) where
-  module _ (e : List ℕ) (es : List (List ℕ)) where
-    first-fault : (c : Cause) → Fault c ≡ addedBy r (readAll f (e ∷ [])) → Fault c ≡ addedBy r (readAll f (e ∷ es))
-    unfolding addedBy readAll
-    first-fault c = go (f e)
-      where
-        go : (o : Reading Cause Judged) → Fault c ≡ addedBy r (andThen o (λ x. value (x ∷ []))) → Fault c ≡ addedBy r (andThen o (λ x. andThen (readAll f es) (λ xs. value (x ∷ xs))))
-        go (fault d) p = p
-        go (value x) p = cc
+-- ---- some alternatives, and then more
+module _ (f : List ℕ → Reading Cause Judged) where
+  -- what some came to, and then those of fs
+  abbrev pub further : List (List ℕ) → Added → Added
+  further fs (Fault c) = Fault c
+  further fs (Kept t) = addedBy t (readAll f fs)
 
-    first-kept : (t : Rightmost) → Kept t ≡ addedBy r (readAll f (e ∷ [])) → addedBy t (readAll f es) ≡ addedBy r (readAll f (e ∷ es))
-    unfolding addedBy addedAll readAll
-    first-kept t = go (f e)
-      where
-        rest : (x : Judged) (o : Reading Cause (List Judged)) → addedBy (added r x) o ≡ addedBy r (andThen o (λ xs. value (x ∷ xs)))
-        rest x (fault d) = refl
-        rest x (value xs) = refl
+  kept-first : (r : Rightmost) (x : Judged) (o : Reading Cause (List Judged)) → addedBy r (andThen o (λ xs. value (x ∷ xs))) ≡ addedBy (added r x) o
+  unfolding addedBy addedAll
+  kept-first r x (fault d) = refl
+  kept-first r x (value xs) = refl
 
-        go : (o : Reading Cause Judged) → Kept t ≡ addedBy r (andThen o (λ x. value (x ∷ []))) → addedBy t (readAll f es) ≡ addedBy r (andThen o (λ x. andThen (readAll f es) (λ xs. value (x ∷ xs))))
-        go (fault d) p = cc
-        go (value x) p = let q : t ≡ added r x = cc in rw q (rest x (readAll f es))
+  read-append : (es fs : List (List ℕ)) (r : Rightmost) → further fs (addedBy r (readAll f es)) ≡ addedBy r (readAll f (es ++ fs))
+  unfolding addedBy addedAll readAll
+  read-append [] fs r = refl
+  read-append (e ∷ es) fs r = go (f e) (λ t. read-append es fs t)
+    where
+      go : (o : Reading Cause Judged) → ((t : Rightmost) → further fs (addedBy t (readAll f es)) ≡ addedBy t (readAll f (es ++ fs)))
+          → further fs (addedBy r (andThen o (λ x. andThen (readAll f es) (λ xs. value (x ∷ xs))))) ≡ addedBy r (andThen o (λ x. andThen (readAll f (es ++ fs)) (λ xs. value (x ∷ xs))))
+      go (fault d) h = refl
+      go (value x) h = ap (further fs) (kept-first r x (readAll f es)) ∙ h (added r x) ∙ sym (kept-first r x (readAll f (es ++ fs)))
 
-  -- a turn of a loop over the expansions, with the k-th at the beginning of a buffer
-  module _ (kind : Syntax) (p : List ℕ) (k : ℕ) where
-    abbrev left : ℕ → List (List ℕ)
-    left i = drop i (expansionsOf kind p)
+  added-append : (r : Rightmost) (es fs : List (List ℕ)) (a : Added) → a ≡ addedBy r (readAll f es) → further fs a ≡ addedBy r (readAll f (es ++ fs))
+  added-append r es fs a e = ap (further fs) e ∙ read-append es fs r
 
-    module _ (h : k < length (expansionsOf kind p)) {old new : List ℕ} {q : Filled} (w : Wrote old new 0 (expansionAt kind p k) q) {n : ℕ} (d : q ≡ Done n) where
-      next-is : left k ≡ take n new ∷ left (k + 1)
-      unfolding expansionAt
-      next-is = rw (wrote-read w d) (next-of [] (expansionsOf kind p) k h)
+  module _ (r : Rightmost) where
+    -- a turn of a loop over the expansions es, with the k-th at the beginning of a buffer
+    module _ (es : List (List ℕ)) (k : ℕ) where
+      pub each : k < length es → {old new : List ℕ} {q : Filled} → Wrote old new 0 (getD es k []) q → {n : ℕ} → q ≡ Done n → (a : Added) → a ≡ addedBy r (readAll f (take n new ∷ [])) → further (drop (k + 1) es) a ≡ addedBy r (readAll f (drop k es))
+      each h {old} {new} w {n} d a e =
+          let z : drop k es ≡ take n new ∷ drop (k + 1) es = rw (wrote-read w d) (next-of [] es k h) in
+          rw z (added-append r (take n new ∷ []) (drop (k + 1) es) a e)
 
-      pub each-fault : (c : Cause) → Fault c ≡ addedBy r (readAll f (take n new ∷ [])) → Fault c ≡ addedBy r (readAll f (left k))
-      each-fault c e = rw next-is (first-fault (take n new) (left (k + 1)) c e)
+      pub each-end : length es ≤ k → Kept r ≡ addedBy r (readAll f (drop k es))
+      unfolding addedBy addedAll readAll
+      each-end h = rw (drop-of-length-le es h)
 
-      pub each-kept : (t : Rightmost) → Kept t ≡ addedBy r (readAll f (take n new ∷ [])) → addedBy t (readAll f (left (k + 1))) ≡ addedBy r (readAll f (left k))
-      each-kept t e = rw next-is (first-kept (take n new) (left (k + 1)) t e)
+    -- a turn of a loop over the alternatives of the top level, of which the first has the expansions es
+    module _ (syntax : Syntax) (p : List ℕ) (at e : ℕ) (es : List (List ℕ)) (o : First syntax p at e es) where
+      pub first : (a : Added) → a ≡ addedBy r (readAll f es) → further (o .rest) a ≡ addedBy r (readAll f (expansionsIn (listOf syntax false (drop at p))))
+      first a q = rw (o .all) (added-append r es (o .rest) a q)
 
-    pub each-end : length (expansionsOf kind p) ≤ k → Kept r ≡ addedBy r (readAll f (left k))
-    unfolding addedBy addedAll readAll
-    each-end h = rw (drop-of-length-le (expansionsOf kind p) h)
+      pub first-last : (t : Rightmost) → Kept t ≡ addedBy r (readAll f es) → length p ≤ e → Kept t ≡ addedBy r (readAll f (expansionsIn (listOf syntax false (drop at p))))
+      unfolding addedBy addedAll readAll
+      first-last t q h = let g = first (Kept t) q in rw (o .last h) at g
+
+      pub first-more : (t : Rightmost) → Kept t ≡ addedBy r (readAll f es) → e < length p → addedBy t (readAll f (expansionsIn (listOf syntax false (drop (e + 1) p)))) ≡ addedBy r (readAll f (expansionsIn (listOf syntax false (drop at p))))
+      first-more t q h = let g = first (Kept t) q in rw (o .more h .0) at g

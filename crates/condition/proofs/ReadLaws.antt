@@ -12,7 +12,7 @@ use Rattle.text.specs.Lists.{has}
 use Rattle.text.specs.Slice.{headIs}
 use Rattle.text.specs.Contract.{findByte}
 use Rattle.text.specs.declared.slice.Found.the-variants.{At, Nothing}
-use Rattle.text.proofs.Laws.{both-true, clash}
+use Rattle.text.proofs.Laws.{both-true}
 use Rattle.text.proofs.Lists.{has-at}
 use Rattle.text.proofs.Slices.{byte-at, byte-none}
 use Rattle.fault.specs.Fault.{Reading, fault, value, andThen, readAll, require}
@@ -20,7 +20,8 @@ use Rattle.fault.specs.declared.Cause.{Cause}
 use Rattle.fault.specs.declared.Cause.the-variants.{OptionName, FieldLength}
 use Rattle.pattern.specs.declared.Syntax.{Syntax}
 use Rattle.pattern.specs.Tree.{expanded}
-use Rattle.pattern.specs.Whole.{orNone, expansionsOf}
+use Rattle.pattern.specs.Whole.{expansionsOf}
+use Rattle.pattern.proofs.WholeLaws.{flat-expanded}
 use Rattle.condition.specs.declared.rightmost.Rightmost.{Rightmost}
 use Rattle.condition.specs.declared.prefix.Prefix.{Prefix}
 use Rattle.condition.specs.declared.condition.Added.{Added}
@@ -51,12 +52,7 @@ module _ (judge : Judge) (negated : Bool) (s : Sort) (p : List ℕ) (r : Rightmo
 
   -- a pattern that is its own only expansion
   pub pattern-flat : expansionsOf syntax p ≡ p ∷ [] → addedBy r (readAll (alternativeRead judge negated s) (p ∷ [])) ≡ addedBy r (alternativesOf judge negated s p)
-  unfolding expansionsOf
-  pattern-flat e = ap (λ es. addedBy r (readAll (alternativeRead judge negated s) es)) (sym e) ∙ go (expanded syntax p) refl e
-    where
-      go : (o : Reading Cause (List (List ℕ))) → expanded syntax p ≡ o → orNone o ≡ p ∷ [] → addedBy r (readAll (alternativeRead judge negated s) (orNone (expanded syntax p))) ≡ addedBy r (alternativesOf judge negated s p)
-      go (fault c) q h = clash cc
-      go (value es) q h = pattern-read q
+  pattern-flat e = ap (λ es. addedBy r (readAll (alternativeRead judge negated s) es)) (sym e) ∙ pattern-read (flat-expanded syntax p e)
 
 -- ---- behind the `!`
 module _ (judge : Judge) (negated : Bool) (t : List ℕ) (us ts : Rightmost) (p : Prefix) (e : prefixedIn t p ≡ prefixed t) where

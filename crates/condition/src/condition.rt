@@ -8,7 +8,9 @@ use fault::Cause;
 use pattern::Expanded;
 use pattern::Pattern;
 use pattern::Syntax;
-use pattern::expand::expansion;
+use pattern::alternatives::Alternative;
+use pattern::alternatives::alternative_at;
+use pattern::alternatives::put_alternative;
 use pattern::reader::read_expansions;
 use pattern::whole::is_flat;
 use question::WeekMinute;
@@ -18,13 +20,15 @@ use text::slice::find_byte;
 use text::slice::head_is;
 ghost use Prim.Native.Nat.{_≤_};
 ghost use mathlib.Core.Path.{_≡_};
-ghost use mathlib.Core.Bool.{not, _||_};
+ghost use mathlib.Core.Bool.{false, not, _||_};
 ghost use mathlib.Core.List.{[], _∷_};
 ghost use lib.Dec.{leb};
-ghost use lib.ListN.{length};
+ghost use lib.ListN.{length, drop};
 ghost use Rattle.text.specs.Bytes.{byte};
 ghost use Rattle.text.specs.Lists.{has};
-ghost use Rattle.fault.specs.Fault.{readAll, require};
+ghost use Rattle.fault.specs.Fault.{value, readAll, require};
+ghost use Rattle.pattern.specs.Contract.{HasNumber, expansionsIn};
+ghost use Rattle.pattern.specs.Tree.{patternOf, expanded};
 ghost use Rattle.pattern.specs.Whole.{expansionsOf};
 ghost use Rattle.question.specs.Contract.{stringsIn};
 ghost use Rattle.condition.specs.Condition.{judgeOf, kindFor, causeFor, alternativeRead, alternativesOf, conditionBehind, conditionOf};
@@ -97,28 +101,29 @@ fn add_one(
     }
 }
 
-// All expansions of a pattern that has so many.
-fn add_all(
+// All expansions of the alternative at `at`, which has so many.
+fn add_braced(
     syntax: Syntax,
     minute: WeekMinute,
     asks: Asks,
     negated: bool,
     judging: bool,
     p: &[u8],
+    at: usize,
     number: usize,
     user: &[u8],
     groups: &[u8],
     host: &[u8],
     kept: Rightmost,
 ) -> Added
-    requires { ⌜ (length (now p) ≤ 1024) × (number ≡ length (expansionsOf syntax (now p))) ⌝ }
-    ensures { λ r. ⌜ r ≡ addedBy kept (readAll (alternativeRead (judgeBy judging (now (user .entry)) (now (groups .entry)) (now (host .entry)) (minute .0)) negated (sortIn asks)) (expansionsOf syntax (now (p .entry)))) ⌝ }
+    requires { ⌜ (length (now p) ≤ 1024) × (at ≤ length (now p)) × HasNumber (patternOf syntax false (drop at (now p))) number × (number ≤ 64) ⌝ }
+    ensures { λ r. ⌜ r ≡ addedBy kept (readAll (alternativeRead (judgeBy judging (now (user .entry)) (now (groups .entry)) (now (host .entry)) (minute .0)) negated (sortIn asks)) (expansionsIn (patternOf syntax false (drop at (now (p .entry)))))) ⌝ }
 {
     let mut out = [0u8; Pattern::BYTES];
     let mut r = kept;
     let mut k = 0;
     while k < number {
-        match expansion(syntax, p, k, &mut out) {
+        match put_alternative(syntax, p, at, number, k, &mut out) {
             Filled::Done(n) => {
                 match add_one(
                     minute,
@@ -148,6 +153,82 @@ fn add_all(
     Added::Kept(r)
 }
 
+// All alternatives of a pattern without a fault, as they stand. So none is malformed; where one is flat, no buffer is needed.
+fn add_all(
+    syntax: Syntax,
+    minute: WeekMinute,
+    asks: Asks,
+    negated: bool,
+    judging: bool,
+    p: &[u8],
+    user: &[u8],
+    groups: &[u8],
+    host: &[u8],
+    kept: Rightmost,
+) -> Added
+    requires { ⌜ (length (now p) ≤ 1024) × (expanded syntax (now p) ≡ value (expansionsOf syntax (now p))) ⌝ }
+    ensures { λ r. ⌜ r ≡ addedBy kept (readAll (alternativeRead (judgeBy judging (now (user .entry)) (now (groups .entry)) (now (host .entry)) (minute .0)) negated (sortIn asks)) (expansionsOf syntax (now (p .entry)))) ⌝ }
+{
+    let mut r = kept;
+    let mut i = 0;
+    loop {
+        match alternative_at(syntax, p, i) {
+            Alternative::Flat(end) => match add_one(
+                minute,
+                asks,
+                negated,
+                judging,
+                &p[i..end],
+                user,
+                groups,
+                host,
+                r,
+            ) {
+                Added::Kept(next) => {
+                    if p.len() <= end {
+                        return Added::Kept(next);
+                    }
+                    r = next;
+                    i = end + 1;
+                    continue;
+                }
+                Added::Fault(cause) => {
+                    return Added::Fault(cause);
+                }
+            },
+            Alternative::Braced(end, number) => match add_braced(
+                syntax,
+                minute,
+                asks,
+                negated,
+                judging,
+                p,
+                i,
+                number,
+                user,
+                groups,
+                host,
+                r,
+            ) {
+                Added::Kept(next) => {
+                    if p.len() <= end {
+                        return Added::Kept(next);
+                    }
+                    r = next;
+                    i = end + 1;
+                    continue;
+                }
+                Added::Fault(cause) => {
+                    return Added::Fault(cause);
+                }
+            },
+            Alternative::Malformed => {
+                return Added::Fault(Cause::Pattern);
+            }
+        }
+    }
+}
+
 // The alternatives of a pattern: well formed, then depth and number, then each in order.
 fn add_alternatives(
     minute: WeekMinute,
@@ -169,14 +250,13 @@ fn add_alternatives(
     }
     match read_expansions(syntax, p) {
         Expanded::Fault(cause) => Added::Fault(cause),
-        Expanded::Number(number) => add_all(
+        Expanded::Number(_) => add_all(
             syntax,
             minute,
             asks,
             negated,
             judging,
             p,
-            number,
             user,
             groups,
             host,

@@ -1,15 +1,16 @@
 -- A full path by its two tests, and a command pattern by what is read of it.
 use mathlib.Core.Path.{_≡_, ap, _∙_}
 use mathlib.Core.Bool.{Bool, true, false, not, _&&_}
-use mathlib.Core.List.{List}
+use mathlib.Core.List.{List, [], _∷_}
 use Prim.Native.Nat.{ℕ, _≤_}
 use lib.ListN.{length}
 use Rattle.fault.specs.Fault.{fault, value}
 use Rattle.fault.specs.declared.Cause.{Cause}
 use Rattle.pattern.specs.declared.Syntax.the-variants.{Plain}
 use Rattle.pattern.specs.Tree.{expanded}
-use Rattle.pattern.specs.Whole.{matchesPattern}
-use Rattle.pattern.proofs.WholeLaws.{matches-are}
+use Rattle.glob.specs.Match.{matches, matchesSome}
+use Rattle.pattern.specs.Whole.{expansionsOf, matchesPattern}
+use Rattle.pattern.proofs.WholeLaws.{matches-are, flat-expanded, flat-matches}
 use Rattle.entry.specs.declared.pair.CommandRead.{CommandRead}
 use Rattle.entry.specs.declared.pair.CommandRead.the-variants.{Fault, Misses}
 use Rattle.entry.specs.Contract.{commandTest, commandRead}
@@ -33,3 +34,12 @@ module _ (j : Bool) (c p : List ℕ) where
     pub command-unjudged : j ≡ false → Misses ≡ commandRead j c (expanded Plain p)
     unfolding commandRead
     command-unjudged q = rw (e, q)
+
+  -- a pattern that is its own only expansion
+  module _ (e : expansionsOf Plain p ≡ p ∷ []) where
+    pub command-flat : {m : Bool} {r : CommandRead} → j ≡ true → m ≡ matches p c → r ≡ commandTest m → r ≡ commandRead j c (expanded Plain p)
+    unfolding commandRead
+    command-flat q f g = rw (flat-expanded Plain p e, q) (g ∙ ap commandTest (f ∙ flat-matches Plain p e c ∙ ap (λ es. matchesSome es c) e))
+
+    pub command-flat-unjudged : j ≡ false → Misses ≡ commandRead j c (expanded Plain p)
+    command-flat-unjudged q = command-unjudged (flat-expanded Plain p e) q

@@ -1,10 +1,12 @@
 // A command pattern and its path.
 use fault::Cause;
+use glob::matcher::matches_expansion;
 use pattern::Expanded;
 use pattern::Pattern;
 use pattern::Syntax;
 use pattern::matcher::matches_pattern;
 use pattern::reader::read_expansions;
+use pattern::whole::is_flat;
 use text::class::is_blank;
 use text::slice::head_is;
 ghost use mathlib.Core.Path.{_≡_};
@@ -63,6 +65,12 @@ pub fn read_command(p: &[u8], judging: bool, command: &[u8]) -> CommandRead
     requires { ⌜ length (now p) ≤ 1024 ⌝ }
     ensures { λ r. ⌜ r ≡ commandRead judging (now (command .entry)) (expanded Syntax.Plain (now (p .entry))) ⌝ }
 {
+    if is_flat(Syntax::Plain, p) {
+        if judging {
+            return of_test(matches_expansion(p, command));
+        }
+        return CommandRead::Misses;
+    }
     match read_expansions(Syntax::Plain, p) {
         Expanded::Fault(cause) => CommandRead::Fault(cause),
         Expanded::Number(_) => {

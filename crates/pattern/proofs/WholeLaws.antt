@@ -190,10 +190,6 @@ module _ (syntax : Syntax) (p : List ℕ) where
       let f = up-full (length old) (0 + length (expansionAt syntax p k)) (sym (w .answer) ∙ e) in
       omega (arith, f, expansion-short k)
 
-  pub at-past : (k : ℕ) → length (expansionsOf syntax p) ≤ k → [] ≡ expansionAt syntax p k
-  unfolding expansionAt
-  at-past k h = sym (List·getD-eq-default (expansionsOf syntax p) [] h)
-
 -- ---- a pattern that has a k-th expansion
 pub record Kth (syntax : Syntax) (p : List ℕ) (k : ℕ) : Type 0 where
   pub holds : HasNth (listOf syntax false (drop 0 p)) k
@@ -232,7 +228,7 @@ unfolding depth
 depth-wrapped [] = refl
 depth-wrapped (w ∷ ws) = depth-wrapped ws
 
-expansions-wrapped : (ws : List (List ℕ)) → expansions (wrapped ws empty) ≡ flat ws ∷ []
+pub expansions-wrapped : (ws : List (List ℕ)) → expansions (wrapped ws empty) ≡ flat ws ∷ []
 unfolding expansions flat
 expansions-wrapped [] = refl
 expansions-wrapped (w ∷ ws) = rw (expansions-wrapped ws)
@@ -250,12 +246,13 @@ flat-is syntax p e w g =
     expansions-are syntax p _ (expanded-good syntax p (wrapped (w .pieces) empty) q (fits-wrapped (w .pieces))) ∙ expansions-wrapped (w .pieces) ∙ rw z
 
 module _ (syntax : Syntax) (p : List ℕ) (e : expansionsOf syntax p ≡ p ∷ []) where
-  pub flat-first : (k : ℕ) → k ≡ 0 → expansionAt syntax p k ≡ p
-  unfolding expansionAt
-  flat-first k z = rw (z, e)
-
-  pub flat-past : (k : ℕ) → (k ≡ 0 → ⊥) → [] ≡ expansionAt syntax p k
-  flat-past k z = at-past syntax p k (rw e (omega arith))
+  pub flat-expanded : expanded syntax p ≡ value (p ∷ [])
+  unfolding expansionsOf
+  flat-expanded = go (expanded syntax p) refl
+    where
+      go : (r : Reading Cause (List (List ℕ))) → expanded syntax p ≡ r → expanded syntax p ≡ value (p ∷ [])
+      go (fault c) q = let f = rw q at e in clash cc
+      go (value es) q = let f = rw q at e in q ∙ ap value f
 
   pub flat-matches : (s : List ℕ) → matches p s ≡ matchesSome (expansionsOf syntax p) s
   unfolding matchesSome any

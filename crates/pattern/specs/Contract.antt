@@ -9,7 +9,7 @@ use lib.ListN.{length, drop, take, getD}
 use Rattle.text.specs.Parts.{partAt}
 use Rattle.fault.specs.Fault.{Reading, fault, value}
 use Rattle.fault.specs.declared.Cause.{Cause}
-use Rattle.pattern.specs.Tree.{Tree, empty, piece, list, or, depth, number, FirstPiece, setPiece, firstPiece, TreeRead, parsed, malformed, bind, patternOf, listOf, treeOf}
+use Rattle.pattern.specs.Tree.{Tree, empty, piece, list, or, depth, number, expansions, FirstPiece, setPiece, firstPiece, TreeRead, parsed, malformed, bind, patternOf, listOf, treeOf}
 use Rattle.pattern.specs.Whole.{expansionsOf}
 use Rattle.pattern.specs.declared.Syntax.{Syntax}
 use Rattle.pattern.specs.declared.Pattern.{Pattern}
@@ -23,6 +23,8 @@ use Rattle.pattern.specs.declared.run.RunRead.{RunRead}
 use Rattle.pattern.specs.declared.run.RunRead.the-variants.{Opens, Ends, Malformed as RunMalformed}
 use Rattle.pattern.specs.declared.braces.ListRead.{ListRead}
 use Rattle.pattern.specs.declared.braces.ListRead.the-variants.{Done, Malformed}
+use Rattle.pattern.specs.declared.alternatives.Alternative.{Alternative}
+use Rattle.pattern.specs.declared.alternatives.Alternative.the-variants.{Flat, Braced, Malformed as AlternativeMalformed}
 
 -- ---- a whole pattern
 
@@ -170,3 +172,23 @@ HasNumber malformed n = ⊥
 abbrev pub HasNth : TreeRead → ℕ → Type 0
 HasNth (parsed t r) k = (k < number t) × (number t ≤ 64)
 HasNth malformed k = ⊥
+
+-- ---- an alternative of the top level
+
+-- the brace-free expansions of a reading, none where it is malformed
+unfoldable pub expansionsIn : TreeRead → List (List ℕ)
+expansionsIn (parsed t r) = expansions t
+expansionsIn malformed = []
+
+-- a reading from `at` on that leaves the bytes from e on
+pub record EndsBefore (p : List ℕ) (at e : ℕ) (o : TreeRead) : Type 0 where
+  pub tree : Tree
+  pub is : o ≡ parsed tree (drop e p)
+  pub low : at ≤ e
+  pub high : e ≤ length p
+
+-- an answer tells the reading o of the alternative that begins at `at`: its only expansion is what is written, or how many it has, up to 65
+abbrev pub AlternativeAt : List ℕ → ℕ → Alternative → TreeRead → Type 0
+AlternativeAt p at (Flat e) o = EndsBefore p at e o × (expansionsIn o ≡ take (e - at) (drop at p) ∷ [])
+AlternativeAt p at (Braced e n) o = (w : EndsBefore p at e o) × (n ≡ min (number (w .tree)) 65)
+AlternativeAt p at AlternativeMalformed o = o ≡ malformed

@@ -1,46 +1,52 @@
-use lib.ListN.{length, drop, length-replicate}
-use Rattle.condition.proofs.AddedLaws.{each-fault, each-kept, each-end}
+use native.Mathlib.Omega.{arith}
+use borrow.Author.Needs.{needs}
+use mathlib.Core.Bool.{false}
+use mathlib.Core.List.{[], _∷_}
+use mathlib.Core.Path.{_≡_, sym, ap, _∙_}
+use Prim.Native.Nat.{_-_, _≤_}
+use lib.ListN.{length, drop, take}
+use Rattle.fault.specs.Fault.{readAll}
+use Rattle.pattern.specs.Tree.{patternOf, listOf}
+use Rattle.pattern.specs.Whole.{expansionsOf}
+use Rattle.pattern.specs.Contract.{expansionsIn}
+use Rattle.pattern.proofs.TopLevel.{Few, First, first-flat, first-braced, braced-few, braced-numbers, no-alternative, whole-few, whole-all}
 use Rattle.condition.specs.Contract.{sortIn, judgeBy, addedBy}
 use Rattle.condition.specs.Condition.{alternativeRead}
-use Rattle.pattern.proofs.WholeLaws.{never-full}
-use Rattle.pattern.specs.Whole.{expansionsOf}
-use Rattle.fault.specs.Fault.{readAll}
-use Rattle.text.proofs.Buffers.{wrote-done, wrote-length}
-use lib.Seq.{length-take-le}
-use Prim.Native.Nat.{ℕ, _-_}
-use mathlib.Core.Path.{_≡_, refl, sym, _∙_}
-use borrow.Author.Needs.{needs}
-use native.Mathlib.Omega.{arith}
+use Rattle.condition.specs.declared.condition.Added.the-variants.{Fault}
+use Rattle.condition.proofs.AddedLaws.{first, first-last, first-more}
 use Rattle.condition.proofs.condition.add_all.Statement.{statement}
 use Rattle.condition.proofs.condition.add_all.Tie as tie
-use Rattle.condition.proofs.condition.add_all.Reads as reads
-use Rattle.condition.proofs.condition.add_all.Lts as lts
-use Rattle.condition.proofs.condition.add_one.Reads as add-one-reads
-use Rattle.pattern.proofs.expand.expansion.Reads as expansion-reads
 
 abbrev Inv-loop : tie.InvT-loop
-Inv-loop kind minute asks negated judging p number user groups host out₀ r₀ k₀ out r k = (length out ≡ 1024) × (addedBy r (readAll (alternativeRead (judgeBy judging user groups host (minute .0)) negated (sortIn asks)) (drop k (expansionsOf kind p))) ≡ addedBy r₀ (readAll (alternativeRead (judgeBy judging user groups host (minute .0)) negated (sortIn asks)) (expansionsOf kind p)))
+Inv-loop syntax minute asks negated judging p user groups host r₀ i₀ r i = (i ≤ length p) × Few (listOf syntax false (drop i p)) × (addedBy r (readAll (alternativeRead (judgeBy judging user groups host (minute .0)) negated (sortIn asks)) (expansionsIn (listOf syntax false (drop i p)))) ≡ addedBy r₀ (readAll (alternativeRead (judgeBy judging user groups host (minute .0)) negated (sortIn asks)) (expansionsOf syntax p)))
 
 abbrev μ-loop : tie.MeasureT-loop
-μ-loop kind minute asks negated judging p number user groups host out₀ r₀ k₀ out r k = number - k
+μ-loop syntax minute asks negated judging p user groups host r₀ i₀ r i = length p - i
+
+-- the alternative told is the first of those left
+flat : (c : tie.After-known-told Inv-loop μ-loop) → First (c .before .before .before .before .before .before .before .before .before .args .syntax) (c .before .before .before .before .before .before .before .before .before .args .p .now) (c .before .before .before .before .loop .i) (c .before .end .given .0 .0) (take (c .before .end .given .0 .0 - c .before .before .before .before .loop .i) (drop (c .before .before .before .before .loop .i) (c .before .before .before .before .before .before .before .before .before .args .p .now)) ∷ [])
+flat c = let l = c .before .before .before .before .loop in first-flat (c .before .before .before .before .before .before .before .before .before .args .syntax) (c .before .before .before .before .before .before .before .before .before .args .p .now) (l .i) (l .inv .1) _ (rw (c .before .end .given .1) at (c .before .before .before .alternative-at .ensures (l .inv .0)))
+
+braced : (c : tie.After-known-told4 Inv-loop μ-loop) → First (c .before .before .before .before .before .before .before .before .before .args .syntax) (c .before .before .before .before .before .before .before .before .before .args .p .now) (c .before .before .before .before .loop .i) (c .before .end2 .given .0 .0) (expansionsIn (patternOf (c .before .before .before .before .before .before .before .before .before .args .syntax) false (drop (c .before .before .before .before .loop .i) (c .before .before .before .before .before .before .before .before .before .args .p .now))))
+braced c = let l = c .before .before .before .before .loop in first-braced (c .before .before .before .before .before .before .before .before .before .args .syntax) (c .before .before .before .before .before .before .before .before .before .args .p .now) (l .i) (l .inv .1) _ _ (rw (c .before .end2 .given .1) at (c .before .before .before .alternative-at .ensures (l .inv .0)))
 
 loop-holds : tie.Need-loop-holds Inv-loop μ-loop
-loop-holds c = (length-replicate {A = ℕ} 1024 0, refl)
+loop-holds c = let a = c .before .before .before .before .args in (omega arith, whole-few (a .syntax) (a .p .now) (c .before .before .before .before .pre .1), ap (λ es. addedBy (a .kept) (readAll (alternativeRead (judgeBy (a .judging) (a .user .now) (a .groups .now) (a .host .now) (a .minute .0)) (a .negated) (sortIn (a .asks))) es)) (whole-all (a .syntax) (a .p .now) (c .before .before .before .before .pre .1)))
 
-slice-aggregate-expansion : tie.Need-slice-aggregate-expansion Inv-loop μ-loop
-slice-aggregate-expansion c = sym (c .before .before .loop .inv .0)
+alternative-at-requires : tie.Need-alternative-at-requires Inv-loop μ-loop
+alternative-at-requires c κs = search needs
 
-expansion-requires : tie.Need-expansion-requires Inv-loop μ-loop
-expansion-requires c κs = search needs
+enum-known-end : tie.Need-enum-known-end Inv-loop μ-loop
+enum-known-end c = search needs
 
-enum-known-n : tie.Need-enum-known-n Inv-loop μ-loop
-enum-known-n c = search needs
+sub-add-one : tie.Need-sub-add-one Inv-loop μ-loop
+sub-add-one c = let o = flat c in omega (arith, o .low, o .high)
 
-array-share-prefix-out : tie.Need-array-share-prefix-out Inv-loop μ-loop
-array-share-prefix-out c = let w = c .before .before .before .before .expansion .ensures in omega (arith, wrote-done w (c .before .n .given .1) .0, wrote-length w)
+part-add-one-start : tie.Need-part-add-one-start Inv-loop μ-loop
+part-add-one-start c = let o = flat c in omega (arith, o .low, o .high)
 
-slice-aggregate-add-one : tie.Need-slice-aggregate-add-one Inv-loop μ-loop
-slice-aggregate-add-one c = let w = c .before .before .before .before .before .expansion .ensures in let d = wrote-done w (c .before .before .n .given .1) in sym (length-take-le _ _ (omega (arith, d .0, wrote-length w)))
+part-add-one-end : tie.Need-part-add-one-end Inv-loop μ-loop
+part-add-one-end c = let o = flat c in omega (arith, o .low, o .high)
 
 add-one-requires : tie.Need-add-one-requires Inv-loop μ-loop
 add-one-requires c κs = search needs
@@ -48,29 +54,61 @@ add-one-requires c κs = search needs
 enum-known-next : tie.Need-enum-known-next Inv-loop μ-loop
 enum-known-next c = search needs
 
-add-k : tie.Need-add-k Inv-loop μ-loop
-add-k c = search needs
+returns : tie.Need-returns Inv-loop μ-loop
+returns c = first-last _ _ _ _ _ _ _ (flat (c .before .before .before .before .before .before)) _ (sym (c .before .before .next .given .1) ∙ c .before .before .before .before .add-one .ensures) (c .if1 .taken) ∙ c .before .before .before .before .before .before .before .before .before .before .loop .inv .2
+
+add-i : tie.Need-add-i Inv-loop μ-loop
+add-i c = let o = flat (c .before .before .before .before .before .before) in omega (arith, o .low, o .high)
 
 loop-less : tie.Need-loop-less Inv-loop μ-loop
-loop-less c = search needs
+loop-less c = let o = flat (c .before .before .before .before .before .before) in omega (arith, o .low, o .high)
 
 loop-again : tie.Need-loop-again Inv-loop μ-loop
-loop-again c = (wrote-length (c .before .before .before .before .before .before .before .before .before .expansion .ensures) ∙ c .before .before .before .before .before .before .before .before .before .before .before .before .loop .inv .0, each-kept _ _ _ _ (c .before .before .before .before .before .before .before .before .before .before .before .before .loop .k) (omega (arith, c .before .before .before .before .before .before .before .before .before .before .before .before .before .before .before .before .before .pre .1)) (c .before .before .before .before .before .before .before .before .before .expansion .ensures) (c .before .before .before .before .before .before .n .given .1) _ (sym (c .before .next .given .1) ∙ c .before .before .before .add-one .ensures) ∙ c .before .before .before .before .before .before .before .before .before .before .before .before .loop .inv .1)
+loop-again c = let o = flat (c .before .before .before .before .before .before) in (omega (arith, o .high), o .more (c .if1 .left) .1, first-more _ _ _ _ _ _ _ o _ (sym (c .before .before .next .given .1) ∙ c .before .before .before .before .add-one .ensures) (c .if1 .left) ∙ c .before .before .before .before .before .before .before .before .before .before .loop .inv .2)
 
 enum-known-cause : tie.Need-enum-known-cause Inv-loop μ-loop
 enum-known-cause c = search needs
 
-returns : tie.Need-returns Inv-loop μ-loop
-returns c = each-fault _ _ _ _ (c .before .before .before .before .before .before .before .before .before .before .before .before .loop .k) (omega (arith, c .before .before .before .before .before .before .before .before .before .before .before .before .before .before .before .before .before .pre .1)) (c .before .before .before .before .before .before .before .before .before .expansion .ensures) (c .before .before .before .before .before .before .n .given .1) _ (sym (c .before .cause .given .1) ∙ c .before .before .before .add-one .ensures) ∙ c .before .before .before .before .before .before .before .before .before .before .before .before .loop .inv .1
+returns-2 : tie.Need-returns-2 Inv-loop μ-loop
+returns-2 c = first _ _ _ _ _ _ _ (flat (c .before .before .before .before .before)) (Fault _) (sym (c .before .cause .given .1) ∙ c .before .before .before .add-one .ensures) ∙ c .before .before .before .before .before .before .before .before .before .loop .inv .2
+
+enum-known-end-2 : tie.Need-enum-known-end-2 Inv-loop μ-loop
+enum-known-end-2 c = search needs
+
+add-braced-requires : tie.Need-add-braced-requires Inv-loop μ-loop
+add-braced-requires c κs =
+    let l = c .before .before .before .before .loop in
+    let w = rw (c .before .end2 .given .1) at (c .before .before .before .alternative-at .ensures (l .inv .0)) in
+    (c .before .before .before .before .before .before .before .before .before .pre .0, l .inv .0, braced-numbers (c .before .before .before .before .before .before .before .before .before .args .syntax) (c .before .before .before .before .before .before .before .before .before .args .p .now) (l .i) (l .inv .1) _ _ w, braced-few (c .before .before .before .before .before .before .before .before .before .args .syntax) (c .before .before .before .before .before .before .before .before .before .args .p .now) (l .i) (l .inv .1) _ _ w)
+
+enum-known-next-2 : tie.Need-enum-known-next-2 Inv-loop μ-loop
+enum-known-next-2 c = search needs
+
+returns-3 : tie.Need-returns-3 Inv-loop μ-loop
+returns-3 c = first-last _ _ _ _ _ _ _ (braced (c .before .before .before .before .before)) _ (sym (c .before .before .next2 .given .1) ∙ c .before .before .before .before .add-braced .ensures) (c .if2 .taken) ∙ c .before .before .before .before .before .before .before .before .before .loop .inv .2
+
+add-i-2 : tie.Need-add-i-2 Inv-loop μ-loop
+add-i-2 c = let o = braced (c .before .before .before .before .before) in omega (arith, o .low, o .high)
+
+loop-less-2 : tie.Need-loop-less-2 Inv-loop μ-loop
+loop-less-2 c = let o = braced (c .before .before .before .before .before) in omega (arith, o .low, o .high)
+
+loop-again-2 : tie.Need-loop-again-2 Inv-loop μ-loop
+loop-again-2 c = let o = braced (c .before .before .before .before .before) in (omega (arith, o .high), o .more (c .if2 .left) .1, first-more _ _ _ _ _ _ _ o _ (sym (c .before .before .next2 .given .1) ∙ c .before .before .before .before .add-braced .ensures) (c .if2 .left) ∙ c .before .before .before .before .before .before .before .before .before .loop .inv .2)
+
+enum-known-cause-2 : tie.Need-enum-known-cause-2 Inv-loop μ-loop
+enum-known-cause-2 c = search needs
+
+returns-4 : tie.Need-returns-4 Inv-loop μ-loop
+returns-4 c = first _ _ _ _ _ _ _ (braced (c .before .before .before .before)) (Fault _) (sym (c .before .cause2 .given .1) ∙ c .before .before .before .add-braced .ensures) ∙ c .before .before .before .before .before .before .before .before .loop .inv .2
 
 enum-told : tie.Need-enum-told Inv-loop μ-loop
 enum-told c = search needs
 
-returns-2 : tie.Need-returns-2 Inv-loop μ-loop
-returns-2 c = absurd (never-full _ _ _ (c .before .before .before .expansion .ensures) (omega (arith, c .before .before .before .before .before .before .before .before .before .before .before .pre .0)) (c .enum-told .given .1))
-
-returns-3 : tie.Need-returns-3 Inv-loop μ-loop
-returns-3 c = each-end _ _ _ _ (c .before .loop .k) (omega (arith, c .before .before .before .before .before .before .pre .1, c .loop-test .left)) ∙ c .before .loop .inv .1
+returns-5 : tie.Need-returns-5 Inv-loop μ-loop
+returns-5 c =
+    let l = c .before .before .before .loop in
+    absurd (no-alternative (c .before .before .before .before .before .before .before .before .args .syntax) (c .before .before .before .before .before .before .before .before .args .p .now) (l .i) (l .inv .1) (rw (c .enum-told .given .1) at (c .before .before .alternative-at .ensures (l .inv .0))))
 
 pub add-all-spec : {M : Type 1} → statement M
 add-all-spec =
@@ -79,18 +117,27 @@ add-all-spec =
     Inv-loop
     μ-loop
     loop-holds
-    slice-aggregate-expansion
-    expansion-requires
-    enum-known-n
-    array-share-prefix-out
-    slice-aggregate-add-one
+    alternative-at-requires
+    enum-known-end
+    sub-add-one
+    part-add-one-start
+    part-add-one-end
     add-one-requires
     enum-known-next
-    add-k
+    returns
+    add-i
     loop-less
     loop-again
     enum-known-cause
-    returns
-    enum-told
     returns-2
-    returns-3)
+    enum-known-end-2
+    add-braced-requires
+    enum-known-next-2
+    returns-3
+    add-i-2
+    loop-less-2
+    loop-again-2
+    enum-known-cause-2
+    returns-4
+    enum-told
+    returns-5)

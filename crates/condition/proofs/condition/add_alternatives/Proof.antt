@@ -1,17 +1,10 @@
-use native.Mathlib.Omega.{arith}
+use mathlib.Core.Path.{_∙_}
+use Rattle.pattern.proofs.WholeLaws.{told-fault, told-number}
+use Rattle.pattern.proofs.TopLevel.{expanded-again}
 use Rattle.condition.proofs.ReadLaws.{pattern-fault, pattern-read, pattern-flat}
-use Rattle.pattern.proofs.WholeLaws.{told-fault, told-number, count-some}
-use mathlib.Core.Path.{_≡_, sym, _∙_}
 use borrow.Author.Needs.{needs}
 use Rattle.condition.proofs.condition.add_alternatives.Statement.{statement}
 use Rattle.condition.proofs.condition.add_alternatives.Tie as tie
-use Rattle.condition.proofs.condition.add_alternatives.Reads as reads
-use Rattle.condition.proofs.condition.add_alternatives.Lts as lts
-use Rattle.condition.proofs.condition.add_all.Reads as add-all-reads
-use Rattle.condition.proofs.condition.add_one.Reads as add-one-reads
-use Rattle.condition.proofs.condition.kind_for.Reads as kind-for-reads
-use Rattle.pattern.proofs.reader.read_expansions.Reads as read-expansions-reads
-use Rattle.pattern.proofs.whole.is_flat.Reads as is-flat-reads
 
 kind-for-requires : tie.Need-kind-for-requires
 kind-for-requires c κs = search needs
@@ -31,17 +24,17 @@ read-expansions-requires c κs = search needs
 enum-known-cause : tie.Need-enum-known-cause
 enum-known-cause c = search needs
 
-enum-known-number : tie.Need-enum-known-number
-enum-known-number c = search needs
+enum-told : tie.Need-enum-told
+enum-told c = search needs
 
 add-all-requires : tie.Need-add-all-requires
-add-all-requires c κs = (c .before .before .before .before .before .before .before .before .before .before .before .pre, count-some _ _ _ (rw (c .before .number .given .1) at (c .before .before .before .read-expansions .ensures)))
+add-all-requires c κs = (c .before .before .before .before .before .before .before .before .before .before .pre, expanded-again _ _ (told-number _ _ _ (rw (c .enum-told .given .1) at (c .before .before .read-expansions .ensures)) .1))
 
 returns-2 : tie.Need-returns-2
 returns-2 c = pattern-fault _ _ _ _ _ _ (c .before .before .before .before .before .before .kind-for .ensures) (told-fault _ _ _ (rw (c .before .cause .given .1) at (c .before .before .before .read-expansions .ensures)))
 
 returns-3 : tie.Need-returns-3
-returns-3 c = c .add-all .ensures ∙ pattern-read _ _ _ _ _ _ (c .before .before .before .before .before .before .before .kind-for .ensures) (told-number _ _ _ (rw (c .before .before .number .given .1) at (c .before .before .before .before .read-expansions .ensures)) .1)
+returns-3 c = c .add-all .ensures ∙ pattern-read _ _ _ _ _ _ (c .before .before .before .before .before .before .kind-for .ensures) (told-number _ _ _ (rw (c .before .enum-told .given .1) at (c .before .before .before .read-expansions .ensures)) .1)
 
 pub add-alternatives-spec : {M : Type 1} → statement M
 add-alternatives-spec =
@@ -53,7 +46,7 @@ add-alternatives-spec =
     returns
     read-expansions-requires
     enum-known-cause
-    enum-known-number
+    enum-told
     add-all-requires
     returns-2
     returns-3)
