@@ -63,8 +63,8 @@ module _ (f : List ℕ → Reading Cause Judged) where
       go (fault d) h = refl
       go (value x) h = ap (further fs) (kept-first r x (readAll f es)) ∙ h (added r x) ∙ sym (kept-first r x (readAll f (es ++ fs)))
 
-  added-append : (r : Rightmost) (es fs : List (List ℕ)) (a : Added) → a ≡ addedBy r (readAll f es) → further fs a ≡ addedBy r (readAll f (es ++ fs))
-  added-append r es fs a e = ap (further fs) e ∙ read-append es fs r
+  further-append : (r : Rightmost) (es fs : List (List ℕ)) (a : Added) → a ≡ addedBy r (readAll f es) → further fs a ≡ addedBy r (readAll f (es ++ fs))
+  further-append r es fs a e = ap (further fs) e ∙ read-append es fs r
 
   module _ (r : Rightmost) where
     -- a turn of a loop over the expansions es, with the k-th at the beginning of a buffer
@@ -72,7 +72,7 @@ module _ (f : List ℕ → Reading Cause Judged) where
       pub each : k < length es → {old new : List ℕ} {q : Filled} → Wrote old new 0 (getD es k []) q → {n : ℕ} → q ≡ Done n → (a : Added) → a ≡ addedBy r (readAll f (take n new ∷ [])) → further (drop (k + 1) es) a ≡ addedBy r (readAll f (drop k es))
       each h {old} {new} w {n} d a e =
           let z : drop k es ≡ take n new ∷ drop (k + 1) es = rw (wrote-read w d) (next-of [] es k h) in
-          rw z (added-append r (take n new ∷ []) (drop (k + 1) es) a e)
+          rw z (further-append r (take n new ∷ []) (drop (k + 1) es) a e)
 
       pub each-end : length es ≤ k → Kept r ≡ addedBy r (readAll f (drop k es))
       unfolding addedBy addedAll readAll
@@ -81,7 +81,7 @@ module _ (f : List ℕ → Reading Cause Judged) where
     -- a turn of a loop over the alternatives of the top level, of which the first has the expansions es
     module _ (syntax : Syntax) (p : List ℕ) (at e : ℕ) (es : List (List ℕ)) (o : First syntax p at e es) where
       pub first : (a : Added) → a ≡ addedBy r (readAll f es) → further (o .rest) a ≡ addedBy r (readAll f (expansionsIn (listOf syntax false (drop at p))))
-      first a q = rw (o .all) (added-append r es (o .rest) a q)
+      first a q = rw (o .all) (further-append r es (o .rest) a q)
 
       pub first-last : (t : Rightmost) → Kept t ≡ addedBy r (readAll f es) → length p ≤ e → Kept t ≡ addedBy r (readAll f (expansionsIn (listOf syntax false (drop at p))))
       unfolding addedBy addedAll readAll
