@@ -1,6 +1,7 @@
 -- The joined line and the indents, from a place of the line on.
 use mathlib.Core.Path.{_≡_, refl, sym, ap, _∙_}
 use mathlib.Core.Bool.{Bool, true, false, not, cond, _&&_, _||_}
+use mathlib.Core.Logic.{inl, inr}
 use mathlib.Core.List.{List, [], _∷_, _++_, map}
 use Prim.Native.Nat.{ℕ, zero, suc, _+_, _-_, _≤_, _<_}
 use native.Mathlib.Omega.{arith}
@@ -13,7 +14,7 @@ use lib.Seq.{drop-cons, drop-drop, getD-drop}
 use Rattle.text.specs.Bytes.{byte, is}
 use Rattle.text.specs.Class.{blank}
 use Rattle.text.specs.Contract.{lead}
-use Rattle.text.proofs.Laws.{next, clash, both-no, both-true}
+use Rattle.text.proofs.Laws.{next, clash, both-no, both-true, either-true}
 use Rattle.line.specs.Joined.{Mode, JoinedByte, begins, leading, gives, joins, joinBlank, modeAfter, modeJoined, joinedFrom, indented}
 use Rattle.line.specs.Contract.{joinsAt, joinedAt}
 
@@ -88,6 +89,10 @@ module _ (f : ℕ → Bool) (s : List ℕ) (i : ℕ) where
   unfolding leading
   leading-stop h t = rw (next s i, t) (omega arith)
 
+  pub leading-some : i < length s → f (getD s i 0) ≡ true → 0 < leading f (drop i s)
+  unfolding leading
+  leading-some h t = rw (next s i, t) (omega arith)
+
   pub leading-end : length s ≤ i → i ≡ i + leading f (drop i s)
   unfolding leading
   leading-end h = rw (drop-of-length-le s) (omega arith)
@@ -161,13 +166,13 @@ indented-run f w (b ∷ s) = go (f b) refl (indented-run f w s)
     go true e r = rw (w b e) r
     go false e r = refl
 
-blank-joinless : (b : ℕ) → blank b ≡ true → is "\\" b ≡ false
+-- a blank is one of two bytes
+pub by-blank : (P : ℕ → Type 0) → P 32 → P 9 → (b : ℕ) → blank b ≡ true → P b
 unfolding blank
-blank-joinless b e = go (is "\\" b) refl
-  where
-    go : (t : Bool) → is "\\" b ≡ t → is "\\" b ≡ false
-    go true f = let z : b ≡ 92 = eqb-true b 92 f in let g : false ≡ true = rw z at e in cc
-    go false f = f
+by-blank P x y b e = elim (either-true (eqb b 32) (eqb b 9) e) [ inl f ↦ rw (eqb-true b 32 f) x | inr f ↦ rw (eqb-true b 9 f) y ]
+
+pub blank-joinless : (b : ℕ) → blank b ≡ true → is "\\" b ≡ false
+blank-joinless = by-blank (λ b. is "\\" b ≡ false) refl refl
 
 newline-joinless : (s : List ℕ) → begins (is "\n") s ≡ true → indented s ≡ indented (drop 1 s)
 unfolding indented

@@ -19,12 +19,12 @@ use Rattle.text.proofs.Laws.{either-true}
 use Rattle.line.specs.Joined.{Mode, inFields, inComment, JoinedByte, kept, between, leading, unquoted, partsFields, gives, joinBlank, modeAfter, modeJoined}
 use Rattle.line.specs.Scan.{quotingAtEnd}
 use Rattle.line.specs.Contract.{quotingOf, Progress, closedIf, closedOff, longer, absorbed, absorbedAll}
-use Rattle.line.proofs.JoinedLaws.{Steady}
+use Rattle.line.proofs.JoinedLaws.{Steady, by-blank}
 
 -- ---- the quoting
 blank-quoting : (b : ℕ) → blank b ≡ true → quotingAfter Outside b ≡ Outside
-unfolding blank quotingAfter
-blank-quoting b e = elim (either-true (eqb b 32) (eqb b 9) e) [ inl f ↦ rw (eqb-true b 32 f) | inr f ↦ rw (eqb-true b 9 f) ]
+unfolding quotingAfter
+blank-quoting = by-blank (λ b. quotingAfter Outside b ≡ Outside) refl refl
 
 pub quoting-byte : (m : Mode) (b : ℕ) (j : List JoinedByte) → quotingAtEnd (quotingOf m) (gives m b ∷ j) ≡ quotingAtEnd (quotingOf (modeAfter m b)) j
 unfolding quotingAtEnd partsFields modeAfter

@@ -24,7 +24,7 @@ use Rattle.line.specs.declared.scanner.Scanner.{Scanner}
 use Rattle.line.specs.Joined.{Mode, inFields, inComment, JoinedByte, kept, between, begins, leading, unquoted, partsFields, gives, joinBlank, modeAfter, modeJoined, indented}
 use Rattle.line.specs.Scan.{quotingAtEnd}
 use Rattle.line.specs.Contract.{modeOf, quotingOf, joinsAt, inRun, Progress, progress, closedIf, closedOff, longer, absorbed, absorbedAll, Few, Bounded, joinedAhead, joinedAt, Goes}
-use Rattle.line.proofs.JoinedLaws.{Steady, at-byte, at-join, at-run, indented-byte, indented-join, indented-run, begins-leading, lead-leading}
+use Rattle.line.proofs.JoinedLaws.{Steady, at-byte, at-join, at-run, indented-byte, indented-join, indented-run, begins-leading, lead-leading, by-blank, blank-joinless}
 use Rattle.line.proofs.ProgressLaws.{closed-of, quoting-byte, quoting-join, quoting-run, absorbed-append, absorbed-kept}
 
 -- ---- the counts stay few
@@ -86,6 +86,14 @@ steady-plain = record {
   where
     told : (b : ℕ) → ltb 39 b && not (is "\\" b) ≡ true → (39 < b) × (is "\\" b ≡ false)
     told b e = let d = both-true (ltb 39 b) (not (is "\\" b)) e in (ltb-true 39 b (d .0), not-true _ (d .1))
+
+steady-blanks : Steady (inRun Blanks) (inFields Outside) (λ b. between)
+unfolding inRun modeAfter partsFields quotingAfter blank
+steady-blanks = record {
+  joinless = blank-joinless;
+  stays = λ b e. by-blank (λ n. modeAfter (inFields Outside) n ≡ inFields Outside) refl refl b e;
+  mark = λ b e. by-blank (λ n. gives (inFields Outside) n ≡ between) refl refl b e;
+}
 
 steady-comment : Steady (λ b. not (is "\\" b)) inComment (λ b. between)
 unfolding modeAfter partsFields
@@ -163,6 +171,11 @@ module _ {line : List ℕ} {s : Scanner} {text ends : List ℕ} where
         → Goes line s text ends (record { at = end; mode = Fields Outside; counts = record { joined = s .counts .joined + (end - s .at); kept = s .counts .kept + (end - s .at); fields = s .counts .fields; start = s .counts .start }; bare = s .bare; hash = s .hash }) text′ ends
     goes-plain end e d k t =
         goes-run steady-plain e end d k (rw t (sym (absorbed-kept (progress (s .counts) text ends) (take (end - s .at) (drop (s .at) line)) ∙ rw (part-length line (s .at) end k))))
+
+    pub goes-blanks : {n : Counts} {ends′ : List ℕ} (end : ℕ) → modeOf (s .mode) ≡ inFields Outside → end ≡ s .at + leading (inRun Blanks) (drop (s .at) line) → end ≤ length line → progress n text ends′ ≡ absorbedAll (progress (s .counts) text ends) (replicate (end - s .at) between)
+        → Goes line s text ends (record { at = end; mode = Fields Outside; counts = n; bare = s .bare; hash = s .hash }) text ends′
+    goes-blanks end e d k p =
+        goes-run steady-blanks e end d k (p ∙ ap (absorbedAll (progress (s .counts) text ends)) (sym (map-same (take (end - s .at) (drop (s .at) line)) ∙ rw (part-length line (s .at) end k))))
 
     pub goes-comment : {n : Counts} {ends′ : List ℕ} (end : ℕ) → modeOf (s .mode) ≡ inComment → end ≡ s .at + lead (byte "\\") (drop (s .at) line) → end ≤ length line → progress n text ends′ ≡ absorbedAll (progress (s .counts) text ends) (replicate (end - s .at) between)
         → Goes line s text ends (record { at = end; mode = Comment; counts = n; bare = s .bare; hash = s .hash }) text ends′

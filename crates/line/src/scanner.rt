@@ -7,6 +7,7 @@ use super::mode::mode_joined;
 use super::run::Run;
 use super::run::run_end;
 use text::buffer::put_all;
+use text::class::is_blank;
 use text::quote::Quoting;
 use text::slice::byte_from;
 ghost use Prim.Native.Nat.{ℕ, _<_, _≤_};
@@ -16,7 +17,7 @@ ghost use mathlib.Core.List.{List, _∷_};
 ghost use lib.ListN.{length, drop, getD};
 ghost use Rattle.text.specs.declared.quote.Quoting.the-variants.{Outside};
 ghost use Rattle.line.specs.Joined.{inFields, inComment};
-ghost use Rattle.line.specs.Contract.{joinsAt, modeOf, startOf, Bounded, Goes};
+ghost use Rattle.line.specs.Contract.{joinsAt, modeOf, inRun, startOf, Bounded, Goes};
 
 pub struct Scanner {
     // The place of the next byte.
@@ -113,6 +114,53 @@ impl Scanner {
         }
     }
 
+    // Whether a blank stands here outside quotes: it parts fields.
+    fn is_between(self, line: &[u8]) -> bool
+        requires { ⌜ self .at < length (now line) ⌝ }
+        ensures { λ r. ⌜ (r ≡ true → (modeOf (self .mode) ≡ inFields Outside) × (inRun Run.Blanks (getD (now (line .entry)) (self .at) 0) ≡ true)) ⌝ }
+    {
+        let at = self.at;
+        let mode = self.mode;
+        match mode {
+            ScanMode::Fields(quoting) => {
+                if is_unquoted(quoting) {
+                    return is_blank(line[at]);
+                }
+                false
+            }
+            ScanMode::Comment => false,
+        }
+    }
+
+    // Past blanks, outside quotes.
+    fn past_blanks(self, line: &[u8], ends: &mut [usize; 64]) -> Scanner
+        requires { ⌜ Bounded (now line) self × (self .at < length (now line)) × (modeOf (self .mode) ≡ inFields Outside) × (inRun Run.Blanks (getD (now line) (self .at) 0) ≡ true) ⌝ }
+        ensures { λ r. ⌜ (self .at < r .at) × ((text : List ℕ) → Goes (now (line .entry)) self text (now (ends .entry)) r text (now (ends .exit))) ⌝ }
+    {
+        let at = self.at;
+        let had = self.counts;
+        let end = run_end(line, at, Run::Blanks);
+        let counts = had.part(end - at, ends);
+        Scanner {
+            at: end,
+            mode: ScanMode::Fields(Quoting::Outside),
+            counts,
+            bare: self.bare,
+            hash: self.hash,
+        }
+    }
+
+    // Past blanks between fields, or else past one byte that begins no join.
+    fn past_first(self, line: &[u8], text: &mut [u8], ends: &mut [usize; 64]) -> Scanner
+        requires { ⌜ Bounded (now line) self × (self .at < length (now line)) × (joinsAt (drop (self .at) (now line)) ≡ false) ⌝ }
+        ensures { λ r. ⌜ (self .at < r .at) × Goes (now (line .entry)) self (now (text .entry)) (now (ends .entry)) r (now (text .exit)) (now (ends .exit)) ⌝ }
+    {
+        if self.is_between(line) {
+            return self.past_blanks(line, ends);
+        }
+        self.past_byte(line, text, ends)
+    }
+
     // Past plain bytes, outside quotes.
     fn past_plain(self, line: &[u8], text: &mut [u8]) -> Scanner
         requires { ⌜ Bounded (now line) self × (modeOf (self .mode) ≡ inFields Outside) ⌝ }
@@ -185,7 +233,7 @@ impl Scanner {
         if joins_at(line, at) {
             return self.past_join(line, text, ends);
         }
-        let next = self.past_byte(line, text, ends);
+        let next = self.past_first(line, text, ends);
         next.past_run(line, text, ends)
     }
 }

@@ -6,7 +6,7 @@ use Rattle.line.proofs.scanner.Scanner.step.Statement.{statement}
 use Rattle.line.proofs.scanner.Scanner.step.Tie as tie
 use Rattle.line.proofs.scanner.Scanner.step.Reads as reads
 use Rattle.line.proofs.scanner.Scanner.step.Lts as lts
-use Rattle.line.proofs.scanner.Scanner.past_byte.Reads as past-byte-reads
+use Rattle.line.proofs.scanner.Scanner.past_first.Reads as past-first-reads
 use Rattle.line.proofs.scanner.Scanner.past_join.Reads as past-join-reads
 use Rattle.line.proofs.scanner.Scanner.past_run.Reads as past-run-reads
 use Rattle.line.proofs.scanner.joins_at.Reads as joins-at-reads
@@ -23,8 +23,8 @@ same-length c = search needs
 returns : tie.Need-returns
 returns c = search needs
 
-past-byte-requires : tie.Need-past-byte-requires
-past-byte-requires c κs = (c .before .before .before .before .before .before .pre .0, c .before .before .before .before .before .before .pre .1, sym (c .before .before .before .joins-at .ensures) ∙ c .before .before .if1 .left)
+past-first-requires : tie.Need-past-first-requires
+past-first-requires c κs = (c .before .before .before .before .before .before .pre .0, c .before .before .before .before .before .before .pre .1, sym (c .before .before .before .joins-at .ensures) ∙ c .before .before .if1 .left)
 
 past-run-requires : tie.Need-past-run-requires
 past-run-requires c κs = search needs
@@ -33,7 +33,7 @@ same-length-2 : tie.Need-same-length-2
 same-length-2 c = search needs
 
 returns-2 : tie.Need-returns-2
-returns-2 c = (omega (arith, c .before .before .before .before .before .before .before .past-byte .ensures .0, c .before .before .past-run .ensures .low), goes-then (c .before .before .before .before .before .before .before .past-byte .ensures .1) (c .before .before .past-run .ensures))
+returns-2 c = (omega (arith, c .before .before .before .before .before .before .before .past-first .ensures .0, c .before .before .past-run .ensures .low), goes-then (c .before .before .before .before .before .before .before .past-first .ensures .1) (c .before .before .past-run .ensures))
 
 pub step-spec : {M : Type 1} → statement M
 step-spec =
@@ -43,7 +43,7 @@ step-spec =
     past-join-requires
     same-length
     returns
-    past-byte-requires
+    past-first-requires
     past-run-requires
     same-length-2
     returns-2)
