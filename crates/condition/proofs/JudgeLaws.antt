@@ -23,7 +23,7 @@ use Rattle.condition.specs.declared.judge.Judgement.{Judgement}
 use Rattle.condition.specs.declared.judge.Judgement.the-variants.{Malformed, Misses}
 use Rattle.condition.specs.Users.{onHost, userApplies, groupApplies}
 use Rattle.condition.specs.Condition.{Sort, user, group, time, judgeOf}
-use Rattle.condition.specs.Contract.{sortIn, judgementIn, judgementOf, judgeBy, nameApplies, appliesBy}
+use Rattle.condition.specs.Contract.{asksTime, sortIn, judgementIn, judgementOf, judgeBy, nameApplies, appliesBy}
 
 -- ---- one group after the other, with `end` where the string that begins at `from` ends
 module _ (f : List ℕ → Bool) (s : List ℕ) (from end : ℕ) (e : end ≡ from + untilZero (drop from s)) where
@@ -132,14 +132,27 @@ module _ (judging : Bool) (u g h : List ℕ) (m : ℕ) (a : Asks) (e : List ℕ)
   abbrev Says : Option Bool → Type 0
   Says o = judgementOf o ≡ judgementOf (judgeBy judging u g h m (sortIn a) e)
 
-  pub says-user : a ≡ User → Says (Option·map (appliesBy judging user u (stringsIn g) h) (alternativeOf e))
+  says-user : a ≡ User → Says (Option·map (appliesBy judging user u (stringsIn g) h) (alternativeOf e))
   unfolding judgeBy judgeOf appliesBy nameApplies userApplies
   says-user p = rw p (ap judgementOf (map-map _ _ _ (λ x. both-assoc judging (matches (x .name) u) (onHost h (x .host))) (alternativeOf e)))
 
-  pub says-group : a ≡ Group → Says (Option·map (appliesBy judging group u (stringsIn g) h) (alternativeOf e))
+  says-group : a ≡ Group → Says (Option·map (appliesBy judging group u (stringsIn g) h) (alternativeOf e))
   unfolding judgeBy judgeOf appliesBy nameApplies groupApplies
   says-group p = rw p (ap judgementOf (map-map _ _ _ (λ x. both-assoc judging (any (matches (x .name)) (stringsIn g)) (onHost h (x .host))) (alternativeOf e)))
 
-  pub says-time : a ≡ Time → Says (Option·map (λ i. judging && itemMatches i m) (itemOf e))
+  pub says-name : asksTime a ≡ false → Says (Option·map (appliesBy judging (sortIn a) u (stringsIn g) h) (alternativeOf e))
+  says-name t = go a refl t
+    where
+      go : (b : Asks) → a ≡ b → asksTime b ≡ false → Says (Option·map (appliesBy judging (sortIn a) u (stringsIn g) h) (alternativeOf e))
+      go User p t = ap (λ (b : Asks). judgementOf (Option·map (appliesBy judging (sortIn b) u (stringsIn g) h) (alternativeOf e))) p ∙ says-user p
+      go Group p t = ap (λ (b : Asks). judgementOf (Option·map (appliesBy judging (sortIn b) u (stringsIn g) h) (alternativeOf e))) p ∙ says-group p
+      go Time p t = clash cc
+
+  pub says-time : asksTime a ≡ true → Says (Option·map (λ i. judging && itemMatches i m) (itemOf e))
   unfolding judgeBy judgeOf
-  says-time p = rw p (ap judgementOf (map-map (λ i. itemMatches i m) (λ b. judging && b) _ (λ x. refl) (itemOf e)))
+  says-time t = go a refl t
+    where
+      go : (b : Asks) → a ≡ b → asksTime b ≡ true → Says (Option·map (λ i. judging && itemMatches i m) (itemOf e))
+      go User p t = clash cc
+      go Group p t = clash cc
+      go Time p t = rw p (ap judgementOf (map-map (λ i. itemMatches i m) (λ b. judging && b) _ (λ x. refl) (itemOf e)))

@@ -79,10 +79,10 @@ module _ (judge : Judge) (t : List ℕ) (us ts : Rightmost) where
   read-long h = rw (lt-leb _ _ h)
 
   module _ (h : length t ≤ 1024) where
-    pub read-negated : headIs 33 t ≡ true → Reads (conditionRead us ts (conditionBehind judge true (drop 1 t)))
+    pub read-marked : (r : ℕ) → r ≡ cond (headIs 33 t) 1 0 → Reads (conditionRead us ts (conditionBehind judge (eqb r 1) (drop r t)))
     unfolding conditionOf
-    read-negated e = rw (le-leb _ _ h, e)
-
-    pub read-plain : headIs 33 t ≡ false → Reads (conditionRead us ts (conditionBehind judge false t))
-    unfolding conditionOf
-    read-plain e = rw (le-leb _ _ h, e)
+    read-marked r e = rw (le-leb _ _ h, e) (go (headIs 33 t))
+      where
+        go : (b : Bool) → conditionRead us ts (conditionBehind judge (eqb (cond b 1 0) 1) (drop (cond b 1 0) t)) ≡ conditionRead us ts (cond b (conditionBehind judge true (drop 1 t)) (conditionBehind judge false t))
+        go true = refl
+        go false = refl

@@ -53,6 +53,11 @@ sortIn User = user
 sortIn Group = group
 sortIn Time = time
 
+abbrev pub asksTime : Asks → Bool
+asksTime User = false
+asksTime Group = false
+asksTime Time = true
+
 abbrev pub prefixedIn : List ℕ → Prefix → Prefixed
 prefixedIn t p = behindPrefix (sortIn (p .asks)) (p .written) (drop (p .at) t)
 

@@ -17,7 +17,7 @@ use question::WeekMinute;
 use text::buffer::Filled;
 use text::slice::Found;
 use text::slice::find_byte;
-use text::slice::head_is;
+use text::slice::past_head;
 ghost use Prim.Native.Nat.{_≤_};
 ghost use mathlib.Core.Path.{_≡_};
 ghost use mathlib.Core.Bool.{false, not, _||_};
@@ -341,26 +341,14 @@ pub fn read_condition(
     if text.len() > Pattern::BYTES {
         return ConditionRead::Fault(Cause::FieldLength);
     }
-    if head_is(text, b'!') {
-        return read_behind(
-            users,
-            times,
-            true,
-            judging,
-            minute,
-            &text[1..],
-            user,
-            groups,
-            host,
-        );
-    }
+    let from = past_head(text, b'!');
     read_behind(
         users,
         times,
-        false,
+        from == 1,
         judging,
         minute,
-        text,
+        &text[from..],
         user,
         groups,
         host,

@@ -15,7 +15,7 @@ ghost use Rattle.question.specs.Contract.{stringsIn};
 ghost use Rattle.glob.specs.Match.{matches};
 ghost use Rattle.glob.specs.Alternative.{alternativeOf};
 ghost use Rattle.times.specs.Item.{itemOf, itemMatches};
-ghost use Rattle.condition.specs.Contract.{sortIn, judgementIn, judgementOf, judgeBy, nameApplies, appliesBy};
+ghost use Rattle.condition.specs.Contract.{sortIn, judgementIn, judgementOf, judgeBy, nameApplies, appliesBy, asksTime};
 
 // What is found of an alternative.
 pub enum Judgement {
@@ -100,6 +100,16 @@ fn judge_time(judging: bool, e: &[u8], minute: WeekMinute) -> Judgement
     }
 }
 
+fn is_time(asks: Asks) -> bool
+    ensures { λ r. ⌜ r ≡ asksTime asks ⌝ }
+{
+    match asks {
+        Asks::User => false,
+        Asks::Group => false,
+        Asks::Time => true,
+    }
+}
+
 // One brace-free expansion; where nothing is judged only its form is looked at, and it does not apply.
 pub fn judge(
     asks: Asks,
@@ -112,9 +122,8 @@ pub fn judge(
 ) -> Judgement
     ensures { λ r. ⌜ r ≡ judgementOf (judgeBy judging (now (user .entry)) (now (groups .entry)) (now (host .entry)) (minute .0) (sortIn asks) (now (e .entry))) ⌝ }
 {
-    match asks {
-        Asks::User => judge_name(Asks::User, judging, e, user, groups, host),
-        Asks::Group => judge_name(Asks::Group, judging, e, user, groups, host),
-        Asks::Time => judge_time(judging, e, minute),
+    if is_time(asks) {
+        return judge_time(judging, e, minute);
     }
+    judge_name(asks, judging, e, user, groups, host)
 }

@@ -138,21 +138,6 @@ module _ (s : List ℕ) (i : ℕ) (h : length s ≤ i) where
   covered-end b = rw (drop-of-length-le s h)
 
 -- ---- the `!` in front
-pub mark-none : (s : List ℕ) → length s ≡ 0 → _≡_ {A = ℕ} 0 (cond (headIs 33 s) 1 0)
-unfolding headIs
-mark-none [] h = refl
-mark-none (x ∷ s) h = absurd (omega arith)
-
-pub mark-there : (s : List ℕ) → (length s ≡ 0 → ⊥) → getD s 0 0 ≡ 33 → _≡_ {A = ℕ} 1 (cond (headIs 33 s) 1 0)
-unfolding headIs
-mark-there [] h e = absurd (h refl)
-mark-there (x ∷ s) h e = rw e
-
-pub mark-other : (s : List ℕ) → (getD s 0 0 ≡ 33 → ⊥) → _≡_ {A = ℕ} 0 (cond (headIs 33 s) 1 0)
-unfolding headIs
-mark-other [] e = refl
-mark-other (x ∷ s) e = rw (ne-eqb _ _ e)
-
 members-is : (s : List ℕ) (r : ℕ) → r ≡ cond (headIs 33 s) 1 0 → members s ≡ ranges (drop r s)
 unfolding members
 members-is s r e = rw e (go (headIs 33 s))

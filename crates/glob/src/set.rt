@@ -1,5 +1,6 @@
 // The bytes between the brackets of a set.
 use text::slice::byte_from;
+use text::slice::past_head;
 ghost use mathlib.Core.Bool.{cond};
 ghost use mathlib.Core.Path.{_≡_};
 ghost use Prim.Native.Nat.{_+_, _≤_, _<_};
@@ -71,24 +72,11 @@ fn in_ranges(body: &[u8], b: u8) -> bool
     false
 }
 
-// Where the members begin, behind the `!` of a negated set.
-fn past_mark(body: &[u8]) -> usize
-    ensures { λ r. ⌜ (r ≡ cond (headIs 33 (now (body .entry))) 1 0) × (r ≤ length (now (body .entry))) ⌝ }
-{
-    if body.len() == 0 {
-        return 0;
-    }
-    if body[0] == b'!' {
-        return 1;
-    }
-    0
-}
-
 // Whether the set has members and its ranges are in order.
 pub fn good_set(body: &[u8]) -> bool
     ensures { λ r. ⌜ r ≡ goodSet (now (body .entry)) ⌝ }
 {
-    let from = past_mark(body);
+    let from = past_head(body, b'!');
     if body.len() <= from {
         return false;
     }
@@ -99,7 +87,7 @@ pub fn good_set(body: &[u8]) -> bool
 pub fn in_set(body: &[u8], b: u8) -> bool
     ensures { λ r. ⌜ r ≡ inSet (now (body .entry)) b ⌝ }
 {
-    let from = past_mark(body);
+    let from = past_head(body, b'!');
     if from == 1 {
         return !in_ranges(&body[from..], b);
     }

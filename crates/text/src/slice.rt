@@ -3,6 +3,7 @@ use super::alphabet::Alphabet;
 use super::alphabet::all_in;
 ghost use Prim.Native.Nat.{_+_, _≤_};
 ghost use mathlib.Core.Path.{_≡_};
+ghost use mathlib.Core.Bool.{cond};
 ghost use lib.ListN.{length, drop};
 ghost use Rattle.text.specs.Class.{nameByte};
 ghost use Rattle.text.specs.Lists.{all, has};
@@ -52,6 +53,16 @@ pub fn head_is(s: &[u8], c: u8) -> bool
         return false;
     }
     s[0] == c
+}
+
+// The place behind a first byte c: 0 where another byte is first.
+pub fn past_head(s: &[u8], c: u8) -> usize
+    ensures { λ r. ⌜ (r ≡ cond (headIs c (now (s .entry))) 1 0) × (r ≤ length (now (s .entry))) ⌝ }
+{
+    if head_is(s, c) {
+        return 1;
+    }
+    0
 }
 
 // How many bytes are looked at together.

@@ -1,57 +1,53 @@
-use Rattle.text.proofs.Slices.{head-is}
-use Rattle.condition.proofs.ReadLaws.{read-long, read-negated, read-plain}
-use Rattle.condition.specs.Contract.{judgeBy}
+use mathlib.Core.Path.{_∙_}
 use Rattle.text.proofs.Laws.{part-rest}
-use mathlib.Core.Path.{sym, _∙_}
+use Rattle.condition.specs.Contract.{judgeBy}
+use Rattle.condition.proofs.ReadLaws.{read-long, read-marked}
 use borrow.Author.Needs.{needs}
-use native.Mathlib.Omega.{arith}
 use Rattle.condition.proofs.condition.read_condition.Statement.{statement}
 use Rattle.condition.proofs.condition.read_condition.Tie as tie
 use Rattle.condition.proofs.condition.read_condition.Reads as reads
 use Rattle.condition.proofs.condition.read_condition.Lts as lts
-use Rattle.text.proofs.slice.head_is.Reads as head-is-reads
 use Rattle.condition.proofs.condition.read_behind.Reads as read-behind-reads
+use Rattle.text.proofs.slice.past_head.Reads as past-head-reads
 
+-- src/condition.rt:342:9
 returns : tie.Need-returns
 unfolding judgeBy
 returns c = let a = c .before .before .before .before .before .args in read-long (judgeBy (a .judging) (a .user .now) (a .groups .now) (a .host .now) (a .minute .0)) (a .text .now) _ _ (c .if1 .taken)
 
-head-is-requires : tie.Need-head-is-requires
-head-is-requires c κs = search needs
+-- src/condition.rt:344:9
+past-head-requires : tie.Need-past-head-requires
+past-head-requires c κs = search needs
 
+-- src/condition.rt:351:9
 sub-read-behind : tie.Need-sub-read-behind
-sub-read-behind c = let h = head-is 33 (c .before .before .before .before .before .before .before .args .text .now) (sym (c .before .head-is .ensures) ∙ c .if2 .taken) in omega (arith, h .0)
+sub-read-behind c = search needs
 
+-- src/condition.rt:351:9
 part-read-behind-start : tie.Need-part-read-behind-start
-part-read-behind-start c = let h = head-is 33 (c .before .before .before .before .before .before .before .args .text .now) (sym (c .before .head-is .ensures) ∙ c .if2 .taken) in omega (arith, h .0)
+part-read-behind-start c = search needs
 
+-- src/condition.rt:351:9
 part-read-behind-end : tie.Need-part-read-behind-end
 part-read-behind-end c = search needs
 
+-- src/condition.rt:345:5
 read-behind-requires : tie.Need-read-behind-requires
 read-behind-requires c κs = search needs
 
+-- src/condition.rt:329:1
 returns-2 : tie.Need-returns-2
 unfolding judgeBy
-returns-2 c = rw part-rest at (c .read-behind .ensures) ∙ read-negated _ _ _ _ (c .before .before .before .before .if1 .left) (sym (c .before .before .before .head-is .ensures) ∙ c .before .before .if2 .taken)
-
-read-behind-requires-2 : tie.Need-read-behind-requires-2
-read-behind-requires-2 c κs = search needs
-
-returns-3 : tie.Need-returns-3
-unfolding judgeBy
-returns-3 c = c .read-behind2 .ensures ∙ read-plain _ _ _ _ (c .before .before .before .if1 .left) (sym (c .before .before .head-is .ensures) ∙ c .before .if2 .left)
+returns-2 c = rw part-rest at (c .read-behind .ensures) ∙ read-marked _ _ _ _ (c .before .before .before .if1 .left) _ (c .before .before .past-head .ensures .0)
 
 pub read-condition-spec : {M : Type 1} → statement M
 read-condition-spec =
     tie.close
     (tie.spec
     returns
-    head-is-requires
+    past-head-requires
     sub-read-behind
     part-read-behind-start
     part-read-behind-end
     read-behind-requires
-    returns-2
-    read-behind-requires-2
-    returns-3)
+    returns-2)

@@ -6,8 +6,8 @@ use Rattle.glob.proofs.SetLaws.{in-negated, in-plain}
 use Rattle.glob.proofs.set.in_set.Statement.{statement}
 use Rattle.glob.proofs.set.in_set.Tie as tie
 
-past-mark-requires : tie.Need-past-mark-requires
-past-mark-requires c κs = search needs
+past-head-requires : tie.Need-past-head-requires
+past-head-requires c κs = search needs
 
 sub-in-ranges : tie.Need-sub-in-ranges
 sub-in-ranges c = search needs
@@ -22,7 +22,7 @@ in-ranges-requires : tie.Need-in-ranges-requires
 in-ranges-requires c κs = search needs
 
 returns : tie.Need-returns
-returns c = ap not (c .in-ranges .ensures) ∙ rw part-rest (in-negated _ _ (c .before .before .before .past-mark .ensures .0) _ (c .before .before .if1 .taken))
+returns c = ap not (c .in-ranges .ensures) ∙ rw part-rest (in-negated _ _ (c .before .before .before .past-head .ensures .0) _ (c .before .before .if1 .taken))
 
 sub-in-ranges-2 : tie.Need-sub-in-ranges-2
 sub-in-ranges-2 c = search needs
@@ -37,13 +37,13 @@ in-ranges-requires-2 : tie.Need-in-ranges-requires-2
 in-ranges-requires-2 c κs = search needs
 
 returns-2 : tie.Need-returns-2
-returns-2 c = c .in-ranges2 .ensures ∙ rw part-rest (in-plain _ _ (c .before .before .before .past-mark .ensures .0) _ (c .before .before .if1 .left))
+returns-2 c = c .in-ranges2 .ensures ∙ rw part-rest (in-plain _ _ (c .before .before .before .past-head .ensures .0) _ (c .before .before .if1 .left))
 
 pub in-set-spec : {M : Type 1} → statement M
 in-set-spec =
     tie.close
     (tie.spec
-    past-mark-requires
+    past-head-requires
     sub-in-ranges
     part-in-ranges-start
     part-in-ranges-end
