@@ -27,16 +27,18 @@ use Rattle.condition.specs.Rightmost.{Judged}
 use Rattle.condition.specs.Condition.{Sort, user, group, time, Judge, Condition, conditionOf}
 use Rattle.condition.specs.Contract.{judgeIf, conditionRead, readFor, keptFor, addedAll}
 use Rattle.condition.proofs.ConditionLaws.{heardIn, condition-heard}
-use Rattle.entry.specs.declared.entry.Position.the-variants.{First, Second, Pairs, Rest}
+use Rattle.entry.specs.declared.position.Position.the-variants.{First, Second}
+use Rattle.entry.specs.declared.position.FieldKind.the-variants.{Pair as PairField, Command, Path as PathField, Other}
 use Rattle.entry.specs.declared.entry.FieldOutcome.the-variants.{Good, Fault}
 use Rattle.entry.specs.declared.entry.Added.{Added}
 use Rattle.entry.specs.Field.{Entry, entry, noField, followed, Position, first, second, pairs, rest, FieldRead, fieldRead, aPair, conditionPart, fullPath, hasPair, pairAt, pairOf, commandOf, pathField, optionOr, otherOf, fieldOf}
-use Rattle.entry.specs.Contract.{taken, commandTest, commandRead, pairedWith, waitingWith, restWith, masked, Stands, NoOther, Early, Keeps, Holds, Adds, pathBehind}
+use Rattle.entry.specs.Contract.{taken, commandTest, commandRead, pairedWith, waitingWith, restWith, masked, Stands, NoOther, Early, Keeps, Holds, Adds, pathBehind, kindBy}
+use Rattle.entry.proofs.KindLaws.{pair-found, command-found, path-found, no-other-first, other-found}
 use Rattle.entry.proofs.HoldsLaws.{pair-kept, command-kept, option-kept, users-kept, times-kept}
 use Rattle.condition.specs.declared.condition.ConditionRead.the-variants.{Fault as ConditionFault, Users, Times}
-use Rattle.entry.specs.declared.entry.Position.{Position as CodePosition}
+use Rattle.entry.specs.declared.position.Position.{Position as CodePosition}
 use Rattle.entry.specs.declared.entry.Entry.{Entry as Kept}
-use Rattle.entry.specs.declared.pair.CommandRead.the-variants.{Fault as CommandFault, Matches, Misses}
+use Rattle.entry.specs.declared.pair.CommandRead.the-variants.{Fault as CommandFault}
 
 abbrev refused : Kept → Cause → Added
 refused k d = record { entry = k; outcome = Fault d }
@@ -181,73 +183,53 @@ module _ {j : Bool} {c : List ℕ} {t : ℕ → List ℕ} {e : Entry} (judge : J
   unfolding otherOf
   other-as f g = rw (← f) g
 
--- ---- by where the field stands
-module _ {j : Bool} {c : List ℕ} {t : ℕ → List ℕ} {k : Kept} {p : Position} {e : Entry} (judge : Judge) (x : List ℕ) (r : Added) (h : Holds j c t k p e) where
+-- ---- by what the field is
+module _ {j : Bool} {c : List ℕ} {t : ℕ → List ℕ} {k : Kept} {p : Position} {e : Entry} (judge : Judge) (x : List ℕ) (r : Added) (h : Holds j c t k p e) (l : length x ≤ 1024) where
   abbrev Limited : Type 0
   Limited = Adds j c t e (require (leb (length x) 1024) FieldLength (fieldOf judge p x)) r
 
-  within : length x ≤ 1024 → Adds j c t e (fieldOf judge p x) r → Limited
-  within l g = rw (le-leb _ _ l) g
+  within : Adds j c t e (fieldOf judge p x) r → Limited
+  within g = rw (le-leb _ _ l) g
 
-  pub first-pair : (i : ℕ) → length x ≤ 1024 → k .position ≡ First → findPair 58 58 0 x ≡ At i → (Keeps j c t k e → NoOther e → Adds j c t e (pairAt x (At i)) r) → Limited
+  pub pair-here : (i : ℕ) → kindBy (k .position) (findPair 58 58 0 x) ≡ PairField i → (Keeps j c t k e → NoOther e → Adds j c t e (pairAt x (At i)) r) → Limited
   unfolding fieldOf hasPair pairOf
-  first-pair i l s f g = within l (go p (h .stands) (h .early))
+  pair-here i s g = within (go p (h .stands) (h .early))
     where
       go : (q : Position) → Stands j c k q → Early q e → Adds j c t e (fieldOf judge q x) r
-      go first a n = rw f (g (h .keeps) n)
-      go (second es) a n = clash (let b = a .0 in cc)
-      go pairs a n = clash cc
-      go rest a n = clash cc
+      go first a n = rw (pair-found (k .position) _ s) (g (h .keeps) n)
+      go (second es) a n = clash (let b = rw (a .0) at s in cc)
+      go pairs a n = rw (pair-found (k .position) _ s) (g (h .keeps) n)
+      go rest a n = clash (let b = rw a at s in cc)
 
-  pub first-command : length x ≤ 1024 → k .position ≡ First → findPair 58 58 0 x ≡ Nothing → (Keeps j c t k e → NoOther e → Adds j c t e (commandOf x) r) → Limited
+  pub command-here : kindBy (k .position) (findPair 58 58 0 x) ≡ Command → (Keeps j c t k e → NoOther e → Adds j c t e (commandOf x) r) → Limited
   unfolding fieldOf hasPair
-  first-command l s f g = within l (go p (h .stands) (h .early))
+  command-here s g = within (go p (h .stands) (h .early) (command-found (k .position) _ s))
     where
-      go : (q : Position) → Stands j c k q → Early q e → Adds j c t e (fieldOf judge q x) r
-      go first a n = rw f (g (h .keeps) n)
-      go (second es) a n = clash (let b = a .0 in cc)
-      go pairs a n = clash cc
-      go rest a n = clash cc
+      go : (q : Position) → Stands j c k q → Early q e → (k .position ≡ First) × (findPair 58 58 0 x ≡ Nothing) → Adds j c t e (fieldOf judge q x) r
+      go first a n f = rw (f .1) (g (h .keeps) n)
+      go (second es) a n f = clash (let b = a .0 in let d = f .0 in cc)
+      go pairs a n f = clash (let d = f .0 in cc)
+      go rest a n f = clash (let d = f .0 in cc)
 
-  pub second-path : length x ≤ 1024 → k .position ≡ Second → ((es : List (List ℕ)) → Keeps j c t k e → NoOther e → k .waiting ≡ taken j c es → Adds j c t e (pathField es x) r) → Limited
+  pub path-here : kindBy (k .position) (findPair 58 58 0 x) ≡ PathField → ((es : List (List ℕ)) → Keeps j c t k e → NoOther e → k .waiting ≡ taken j c es → Adds j c t e (pathField es x) r) → Limited
   unfolding fieldOf
-  second-path l s g = within l (go p (h .stands) (h .early))
+  path-here s g = within (go p (h .stands) (h .early) (path-found (k .position) _ s))
     where
-      go : (q : Position) → Stands j c k q → Early q e → Adds j c t e (fieldOf judge q x) r
-      go first a n = clash cc
-      go (second es) a n = g es (h .keeps) n (a .1)
-      go pairs a n = clash cc
-      go rest a n = clash cc
+      go : (q : Position) → Stands j c k q → Early q e → k .position ≡ Second → Adds j c t e (fieldOf judge q x) r
+      go first a n f = clash cc
+      go (second es) a n f = g es (h .keeps) n (a .1)
+      go pairs a n f = clash cc
+      go rest a n f = clash cc
 
-  pub pairs-pair : (i : ℕ) → length x ≤ 1024 → k .position ≡ Pairs → findPair 58 58 0 x ≡ At i → (Keeps j c t k e → NoOther e → Adds j c t e (pairAt x (At i)) r) → Limited
-  unfolding fieldOf hasPair pairOf
-  pairs-pair i l s f g = within l (go p (h .stands) (h .early))
-    where
-      go : (q : Position) → Stands j c k q → Early q e → Adds j c t e (fieldOf judge q x) r
-      go first a n = clash cc
-      go (second es) a n = clash (let b = a .0 in cc)
-      go pairs a n = rw f (g (h .keeps) n)
-      go rest a n = clash cc
-
-  pub pairs-other : length x ≤ 1024 → k .position ≡ Pairs → findPair 58 58 0 x ≡ Nothing → (Keeps j c t k e → Adds j c t e (otherOf judge x) r) → Limited
+  pub other-here : kindBy (k .position) (findPair 58 58 0 x) ≡ Other → (Keeps j c t k e → Adds j c t e (otherOf judge x) r) → Limited
   unfolding fieldOf hasPair
-  pairs-other l s f g = within l (go p (h .stands) (h .early))
+  other-here s g = within (go p (h .stands))
     where
-      go : (q : Position) → Stands j c k q → Early q e → Adds j c t e (fieldOf judge q x) r
-      go first a n = clash cc
-      go (second es) a n = clash (let b = a .0 in cc)
-      go pairs a n = rw f (g (h .keeps))
-      go rest a n = clash cc
-
-  pub rest-other : length x ≤ 1024 → k .position ≡ Rest → (Keeps j c t k e → Adds j c t e (otherOf judge x) r) → Limited
-  unfolding fieldOf
-  rest-other l s g = within l (go p (h .stands) (h .early))
-    where
-      go : (q : Position) → Stands j c k q → Early q e → Adds j c t e (fieldOf judge q x) r
-      go first a n = clash cc
-      go (second es) a n = clash (let b = a .0 in cc)
-      go pairs a n = clash cc
-      go rest a n = g (h .keeps)
+      go : (q : Position) → Stands j c k q → Adds j c t e (fieldOf judge q x) r
+      go first a = clash (no-other-first (findPair 58 58 0 x) (rw a at s))
+      go (second es) a = clash (let b = rw (a .0) at s in cc)
+      go pairs a = rw (other-found (findPair 58 58 0 x) (rw a at s)) (g (h .keeps))
+      go rest a = g (h .keeps)
 
 pub long-refused : {j : Bool} {c : List ℕ} {t : ℕ → List ℕ} {k : Kept} {e : Entry} (x : List ℕ) (o : Reading Cause FieldRead) → 1024 < length x → Adds j c t e (require (leb (length x) 1024) FieldLength o) (refused k FieldLength)
 long-refused x o l = record { adds = rw (lt-leb _ _ l) refl }

@@ -16,7 +16,7 @@ use Rattle.condition.specs.Contract.{noneKept, addedAll}
 use Rattle.condition.proofs.RightmostLaws.{added-append}
 use Rattle.entry.specs.Field.{Pair, Entry, entry, noField, followed, aPair}
 use Rattle.entry.specs.Contract.{taken, firstPath, pairedWith, waitingWith, restWith, masked, pathIn, NoOther, Keeps}
-use Rattle.entry.specs.declared.entry.Position.{Position as CodePosition}
+use Rattle.entry.specs.declared.position.Position.{Position as CodePosition}
 use Rattle.entry.specs.declared.entry.Entry.{Entry as Kept}
 
 -- ---- the leftmost pair that is taken, with one more pair

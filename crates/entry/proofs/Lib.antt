@@ -1,4 +1,5 @@
 pub mod PathLaws
+pub mod KindLaws
 pub mod OtherLaws
 pub mod PairLaws
 pub mod HoldsLaws

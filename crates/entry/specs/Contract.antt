@@ -6,6 +6,8 @@ use mathlib.Core.List.{List, [], _∷_, map}
 use mathlib.Core.Option.{Option, none, some}
 use lib.ListN.{drop}
 use Rattle.text.specs.Lists.{null}
+use Rattle.text.specs.declared.slice.Found.{Found}
+use Rattle.text.specs.declared.slice.Found.the-variants.{At, Nothing}
 use Rattle.fault.specs.Fault.{Reading, fault, value, andThen}
 use Rattle.fault.specs.declared.Cause.{Cause}
 use Rattle.glob.specs.Match.{matchesSome}
@@ -17,8 +19,10 @@ use Rattle.options.specs.declared.line.LineOptions.{LineOptions}
 use Rattle.condition.specs.declared.rightmost.Rightmost.{Rightmost}
 use Rattle.condition.specs.Rightmost.{Judged, judged}
 use Rattle.condition.specs.Contract.{noneKept, addedAll}
-use Rattle.entry.specs.declared.entry.Position.{Position as CodePosition}
-use Rattle.entry.specs.declared.entry.Position.the-variants.{First, Second, Pairs, Rest}
+use Rattle.entry.specs.declared.position.Position.{Position as CodePosition}
+use Rattle.entry.specs.declared.position.Position.the-variants.{First, Second, Pairs, Rest}
+use Rattle.entry.specs.declared.position.FieldKind.{FieldKind}
+use Rattle.entry.specs.declared.position.FieldKind.the-variants.{Pair as PairField, Command, Path as PathField, Other}
 use Rattle.entry.specs.declared.entry.Entry.{Entry as Kept}
 use Rattle.entry.specs.declared.entry.FieldOutcome.{FieldOutcome}
 use Rattle.entry.specs.declared.entry.FieldOutcome.the-variants.{Good, Fault}
@@ -29,7 +33,7 @@ use Rattle.entry.specs.declared.verdict.Verdict.the-variants.{Nargs, Arg
 use Rattle.entry.specs.declared.pair.CommandRead.{CommandRead}
 use Rattle.entry.specs.declared.pair.CommandRead.the-variants.{Fault as CommandFault, Matches, Misses}
 use Rattle.entry.specs.Verdict.{Verdict, permit, password, stoppedByNargs, stoppedByArgument, stoppedByPath}
-use Rattle.entry.specs.Field.{Pair, Entry, followed, Position, first, second, pairs, rest, FieldRead, fieldRead, aPair, fullPath, hasPair}
+use Rattle.entry.specs.Field.{Pair, Entry, followed, Position, first, second, pairs, rest, FieldRead, fieldRead, aPair, fullPath}
 
 -- ---- the command
 -- a command pattern is taken where something is judged and it matches
@@ -48,6 +52,37 @@ commandRead judging command (value es) = commandTest (taken judging command es)
 unfoldable pub firstPath : (List (List ℕ) → Bool) → List Pair → Option (List ℕ)
 firstPath f [] = none
 firstPath f (p ∷ ps) = cond (f (p .expansions)) (some (p .path)) (firstPath f ps)
+
+-- ---- what a field is
+-- by where it stands and where its first `::` is
+abbrev pub kindBy : CodePosition → Found → FieldKind
+kindBy First (At i) = PairField i
+kindBy First Nothing = Command
+kindBy Second f = PathField
+kindBy Pairs (At i) = PairField i
+kindBy Pairs Nothing = Other
+kindBy Rest f = Other
+
+-- where the next field stands
+abbrev pub behind : FieldKind → CodePosition
+behind (PairField i) = Pairs
+behind Command = Second
+behind PathField = Rest
+behind Other = Rest
+
+-- an option or a condition
+abbrev pub isOther : FieldKind → Bool
+isOther (PairField i) = false
+isOther Command = false
+isOther PathField = false
+isOther Other = true
+
+-- a position of the definition as the code's
+abbrev pub positionOf : Position → CodePosition
+positionOf first = First
+positionOf (second es) = Second
+positionOf pairs = Pairs
+positionOf rest = Rest
 
 -- ---- what is kept
 -- with one more pair
@@ -143,14 +178,6 @@ pub record Adds (judging : Bool) (command : List ℕ) (text : ℕ → List ℕ) 
 -- a path, of a pair whose command pattern has these expansions
 abbrev pub pathBehind : List (List ℕ) → List ℕ → Position → Reading Cause FieldRead
 pathBehind es t next = andThen (fullPath t) (λ p. value (fieldRead (aPair es p) next))
-
--- a field of this text is an option or a condition
-unfoldable pub otherAt : Position → List ℕ → Bool
-unfolding hasPair
-otherAt first t = false
-otherAt (second es) t = false
-otherAt pairs t = not (hasPair t)
-otherAt rest t = true
 
 -- what a whole entry comes to
 abbrev pub outcomeOf : Reading Cause Entry → FieldOutcome

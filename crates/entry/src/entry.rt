@@ -2,6 +2,8 @@
 use super::pair::CommandRead;
 use super::pair::is_full_path;
 use super::pair::read_command;
+use super::position::FieldKind;
+use super::position::Position;
 use condition::condition::ConditionRead;
 use condition::condition::read_condition;
 use condition::rightmost::Rightmost;
@@ -29,18 +31,7 @@ ghost use Rattle.condition.specs.Condition.{Sort, judgeOf};
 ghost use Rattle.entry.specs.Field.{Entry as Held, Position as Stand, first, noField, pairAt, commandOf, pathField, optionOr, otherOf, fieldOf};
 ghost use Rattle.entry.specs.Entry.{completed, conditionsAccept};
 ghost use Rattle.entry.specs.Path.{pathFor};
-ghost use Rattle.entry.specs.Contract.{taken, given, pairedWith, waitingWith, restWith, Stands, NoOther, Keeps, Holds, Adds, pathBehind, otherAt, outcomeOf};
-
-// Where the next field stands.
-pub enum Position {
-    First,
-    // Behind CmdPat.
-    Second,
-    // Behind pairs only.
-    Pairs,
-    // Behind the path, or a field that is no pair.
-    Rest,
-}
+ghost use Rattle.entry.specs.Contract.{taken, given, pairedWith, waitingWith, restWith, Stands, NoOther, Keeps, Holds, Adds, pathBehind, outcomeOf};
 
 // What is kept of the fields so far.
 pub struct Entry {
@@ -329,17 +320,11 @@ impl Entry {
             };
         }
         let position = self.position;
-        match position {
-            Position::First => match find_pair(text, b':', b':') {
-                Found::At(i) => self.add_pair(index, text, i, judging, command),
-                Found::Nothing => self.add_command(text, judging, command),
-            },
-            Position::Second => self.add_path(index, text),
-            Position::Pairs => match find_pair(text, b':', b':') {
-                Found::At(i) => self.add_pair(index, text, i, judging, command),
-                Found::Nothing => self.add_other(minute, text, user, groups, host),
-            },
-            Position::Rest => self.add_other(minute, text, user, groups, host),
+        match position.kind(text) {
+            FieldKind::Pair(at) => self.add_pair(index, text, at, judging, command),
+            FieldKind::Command => self.add_command(text, judging, command),
+            FieldKind::Path => self.add_path(index, text),
+            FieldKind::Other => self.add_other(minute, text, user, groups, host),
         }
     }
 
@@ -374,22 +359,6 @@ impl Entry {
             return false;
         }
         times.times_accept()
-    }
-
-    // Whether the next field, by its text, is an option or a condition.
-    pub fn takes_other(self, text: &[u8]) -> bool
-        ensures { λ r. ⌜ ((j : Bool) (c : List ℕ) (t : ℕ → List ℕ) (p : Stand) (e : Held) → Holds j c t self p e → r ≡ otherAt p (now (text .entry))) ⌝ }
-    {
-        let position = self.position;
-        match position {
-            Position::First => false,
-            Position::Second => false,
-            Position::Pairs => match find_pair(text, b':', b':') {
-                Found::At(_) => false,
-                Found::Nothing => true,
-            },
-            Position::Rest => true,
-        }
     }
 
     // The number of the field that its path stands in.

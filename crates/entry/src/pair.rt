@@ -7,7 +7,7 @@ use pattern::Syntax;
 use pattern::matcher::matches_pattern;
 use pattern::reader::read_expansions;
 use pattern::whole::is_flat;
-use text::class::is_blank;
+use text::slice::byte_from;
 use text::slice::head_is;
 ghost use mathlib.Core.Path.{_≡_};
 ghost use mathlib.Core.Bool.{not, _&&_};
@@ -30,14 +30,10 @@ pub enum CommandRead {
 fn has_blank(p: &[u8]) -> bool
     ensures { λ r. ⌜ r ≡ any blank (now (p .entry)) ⌝ }
 {
-    let mut i = 0;
-    while i < p.len() {
-        if is_blank(p[i]) {
-            return true;
-        }
-        i += 1;
+    if byte_from(p, 0, b' ') < p.len() {
+        return true;
     }
-    false
+    byte_from(p, 0, b'\t') < p.len()
 }
 
 // Whether a path begins with `/` and has no blank.

@@ -3,14 +3,13 @@ use mathlib.Core.Path.{_≡_, refl, sym, _∙_}
 use mathlib.Core.Bool.{Bool, true, false, not, cond, _&&_}
 use mathlib.Core.List.{List, [], _∷_, _++_}
 use Prim.Native.Nat.{ℕ, _+_, _≤_, _<_}
-use borrow.Author.Tests.{le-leb}
-use lib.Dec.{leb}
 use lib.ListN.{length, take, drop, getD, drop-of-length-le}
 use Rattle.text.specs.Lists.{null}
+use Rattle.text.specs.Slice.{findPair}
 use Rattle.text.proofs.Laws.{next-of}
 use Rattle.fault.specs.Fault.{Reading, fault, value, require}
 use Rattle.fault.specs.declared.Cause.{Cause}
-use Rattle.fault.specs.declared.Cause.the-variants.{FieldLength, MissingPart, OptionTwice}
+use Rattle.fault.specs.declared.Cause.the-variants.{MissingPart, OptionTwice}
 use Rattle.fault.proofs.Readings.{never, same-value, and-then, required}
 use Rattle.variables.specs.Scope.{Scope}
 use Rattle.variables.specs.Substitute.{fieldText}
@@ -22,14 +21,15 @@ use Rattle.options.specs.Read.{Setting, optionOf, twice}
 use Rattle.condition.specs.Condition.{Judge}
 use Rattle.entry.specs.Field.{Entry, noField, followed, Position, first, FieldRead, fieldOf}
 use Rattle.entry.specs.Entry.{fieldsFrom, completed, entryOf}
-use Rattle.entry.specs.Contract.{Holds, Adds, Sums, otherAt, settingsIn}
-use Rattle.entry.specs.declared.entry.Added.{Added}
+use Rattle.entry.specs.Contract.{Sums, kindBy, behind, isOther, positionOf, settingsIn}
+use Rattle.entry.specs.declared.position.Position.{Position as CodePosition}
+use Rattle.entry.specs.declared.position.Position.the-variants.{First}
+use Rattle.entry.specs.declared.position.FieldKind.{FieldKind}
 use Rattle.entry.specs.declared.own.Own.{Own}
 use Rattle.entry.proofs.EntryLaws.{entryAfter, entry-start, entry-end, entry-text, entry-fault, entry-on}
-use Rattle.entry.proofs.OtherLaws.{field-settings}
+use Rattle.entry.proofs.OtherLaws.{field-gives}
 use Rattle.entry.proofs.VerdictLaws.{sums-same}
 use Rattle.variables.specs.declared.field.FieldText.the-variants.{Text}
-use Rattle.entry.specs.declared.entry.Entry.{Entry as Kept}
 
 -- ---- one field more
 module _ {ps : List ArgumentPattern} {xs : List (List ℕ)} {o : Own} (ss : List Setting) (t : List ℕ) {b r : Bool} (e : r ≡ b) where
@@ -52,26 +52,26 @@ entry-fields judge s fs {e} g =
     u .1 ∙ w .1
 
 -- how far the second reading is: where the next field stands, what the fields so far hold, and that the rest completes it
-pub record Reached (judge : Judge) (s : Scope) (j : Bool) (c : List ℕ) (texts : ℕ → List ℕ) (ps : List ArgumentPattern) (xs : List (List ℕ)) (k : Kept) (o : Own) (fs : List (List ℕ)) (whole : Entry) : Type 0 where
+pub record Reached (judge : Judge) (s : Scope) (ps : List ArgumentPattern) (xs : List (List ℕ)) (k : CodePosition) (o : Own) (fs : List (List ℕ)) (whole : Entry) : Type 0 where
   pub position : Position
   pub sofar : Entry
-  pub holds : Holds j c texts k position sofar
+  pub stands : k ≡ positionOf position
   pub sums : Sums ps xs o (sofar .settings)
   pub rest : entryAfter judge s sofar position fs ≡ value whole
 
-module _ {judge : Judge} {s : Scope} {j : Bool} {c : List ℕ} {texts : ℕ → List ℕ} {ps : List ArgumentPattern} {xs : List (List ℕ)} {k : Kept} {o : Own} {whole : Entry} where
+module _ {judge : Judge} {s : Scope} {ps : List ArgumentPattern} {xs : List (List ℕ)} {k : CodePosition} {o : Own} {whole : Entry} where
   -- before the first field
-  pub reached-start : (fs : List (List ℕ)) → Holds j c texts k first noField → Sums ps xs o [] → fieldsFrom judge s first fs ≡ value whole → Reached judge s j c texts ps xs k o fs whole
+  pub reached-start : (fs : List (List ℕ)) → k ≡ First → Sums ps xs o [] → fieldsFrom judge s first fs ≡ value whole → Reached judge s ps xs k o fs whole
   unfolding noField
-  reached-start fs h q e = record { position = first; sofar = noField; holds = h; sums = q; rest = entry-start judge s first fs ∙ e }
+  reached-start fs h q e = record { position = first; sofar = noField; stands = h; sums = q; rest = entry-start judge s first fs ∙ e }
 
   -- behind the last field all settings are there
-  pub reached-end : (fs : List (List ℕ)) (i : ℕ) → length fs ≤ i → Reached judge s j c texts ps xs k o (drop i fs) whole → Sums ps xs o (whole .settings)
+  pub reached-end : (fs : List (List ℕ)) (i : ℕ) → length fs ≤ i → Reached judge s ps xs k o (drop i fs) whole → Sums ps xs o (whole .settings)
   reached-end fs i l r =
       let e = rw (drop-of-length-le fs l) at (r .rest) in
       rw (← same-value (sym (entry-end judge s (r .sofar) (r .position)) ∙ e)) (r .sums)
 
-  module _ (fs : List (List ℕ)) (i : ℕ) {f : List ℕ} (l : i < length fs) (e : f ≡ getD fs i []) (r : Reached judge s j c texts ps xs k o (drop i fs) whole) where
+  module _ (fs : List (List ℕ)) (i : ℕ) {f : List ℕ} (l : i < length fs) (e : f ≡ getD fs i []) (r : Reached judge s ps xs k o (drop i fs) whole) where
     ahead : entryAfter judge s (r .sofar) (r .position) (f ∷ drop (i + 1) fs) ≡ value whole
     ahead = rw (e, ← next-of [] fs i l) (r .rest)
 
@@ -79,29 +79,29 @@ module _ {judge : Judge} {s : Scope} {j : Bool} {c : List ℕ} {texts : ℕ → 
     pub reached-lost : {A : Type 0} {d : Cause} → fault d ≡ fieldText s f → A
     reached-lost g = never (sym (entry-text judge s (r .sofar) (r .position) f (drop (i + 1) fs) (sym g)) ∙ ahead)
 
-    -- the next field: what is kept, and the settings
-    pub reached-on : {old new : List ℕ} {a : Added} {o′ : Own} {u : FieldText} {n : ℕ} → Substitutes s f old new u → u ≡ Text n → texts i ≡ take n new
-        → ((y : ℕ → List ℕ) (p : Position) (e : Entry) → y i ≡ take n new → Holds j c y k p e → Adds j c y e (require (leb (length (take n new)) 1024) FieldLength (fieldOf judge p (take n new))) a)
-        → ((b : Bool) (d : List ℕ) (y : ℕ → List ℕ) (p : Position) (e : Entry) (qs : List ArgumentPattern) (ss : List Setting) → Holds b d y k p e → length (take n new) ≤ 1024 → Sums qs xs o ss → Sums qs xs o′ (ss ++ cond (otherAt p (take n new)) (settingsIn (optionOf false (take n new))) []))
-        → Reached judge s j c texts ps xs (a .entry) o′ (drop (i + 1) fs) whole
+    -- the next field: where it leads, and the settings
+    pub reached-on : {old new : List ℕ} {y : FieldKind} {k′ : CodePosition} {o′ : Own} {u : FieldText} {n : ℕ} → Substitutes s f old new u → u ≡ Text n
+        → y ≡ kindBy k (findPair 58 58 0 (take n new)) → k′ ≡ behind y
+        → ((qs : List ArgumentPattern) (ss : List Setting) → length (take n new) ≤ 1024 → Sums qs xs o ss → Sums qs xs o′ (ss ++ cond (isOther y) (settingsIn (optionOf false (take n new))) []))
+        → Reached judge s ps xs k′ o′ (drop (i + 1) fs) whole
     unfolding followed
-    reached-on {old} {new} {a} {o′} {u} {n} v q y adds sums = go (fieldOf judge (r .position) t) refl (rw (le-leb (length t) 1024 m) at (adds texts (r .position) (r .sofar) y (r .holds)))
+    reached-on {old} {new} {y} {k′} {o′} {u} {n} v q a b sums = go (fieldOf judge (r .position) t) refl
       where
         t : List ℕ
         t = take n new
 
-        m : length t ≤ 1024
-        m = text-short v q
-
         g : fieldText s f ≡ value t
         g = sym (text-value v q)
 
-        go : (x : Reading Cause FieldRead) → fieldOf judge (r .position) t ≡ x → Adds j c texts (r .sofar) x a → Reached judge s j c texts ps xs (a .entry) o′ (drop (i + 1) fs) whole
-        go (fault d) h z = never (sym (entry-fault judge s (r .sofar) (r .position) f (drop (i + 1) fs) g h) ∙ ahead)
-        go (value x) h z = record {
+        w : y ≡ kindBy (positionOf (r .position)) (findPair 58 58 0 t)
+        w = rw (r .stands) at a
+
+        go : (x : Reading Cause FieldRead) → fieldOf judge (r .position) t ≡ x → Reached judge s ps xs k′ o′ (drop (i + 1) fs) whole
+        go (fault d) h = never (sym (entry-fault judge s (r .sofar) (r .position) f (drop (i + 1) fs) g h) ∙ ahead)
+        go (value x) h = let z = rw (← w) at (field-gives judge (r .position) t h) in record {
           position = x .next;
           sofar = followed (r .sofar) (x .part);
-          holds = z .adds .1;
-          sums = rw (field-settings judge (r .position) t h) (sums j c texts (r .position) (r .sofar) ps (r .sofar .settings) (r .holds) m (r .sums));
+          stands = b ∙ sym (z .1);
+          sums = rw (z .0) (sums ps (r .sofar .settings) (text-short v q) (r .sums));
           rest = sym (entry-on judge s (r .sofar) (r .position) f (drop (i + 1) fs) g h) ∙ ahead;
         }

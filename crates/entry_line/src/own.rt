@@ -1,19 +1,17 @@
 // The deciding entry's own options and argument patterns: its fields a second time, for the settings alone.
-use entry::entry::Added;
-use entry::entry::Entry;
-use entry::entry::FieldOutcome;
 use entry::own::Own;
+use entry::position::FieldKind;
+use entry::position::Position;
 use line::fields::field;
 use line::scan::ScannedLine;
 use options::arguments::Failures;
-use question::WeekMinute;
 use text::number::at_most;
 use variables::Variables;
 use variables::field::FieldText;
 use variables::field::field_text;
 ghost use Prim.Native.Nat.{ℕ, _≤_};
 ghost use mathlib.Core.Path.{_≡_};
-ghost use mathlib.Core.Bool.{Bool, false, cond};
+ghost use mathlib.Core.Bool.{false, cond};
 ghost use mathlib.Core.List.{List, [], _++_};
 ghost use lib.ListN.{length, drop};
 ghost use Rattle.fault.specs.Fault.{value};
@@ -23,22 +21,22 @@ ghost use Rattle.variables.specs.Contract.{scopeIn};
 ghost use Rattle.options.specs.Arguments.{ArgumentPattern};
 ghost use Rattle.options.specs.Read.{Setting, optionOf};
 ghost use Rattle.options.specs.Contract.{failures as failuresOf};
-ghost use Rattle.condition.specs.Condition.{judgeOf};
-ghost use Rattle.entry.specs.Field.{Entry as Held, Position as Stand};
+ghost use Rattle.condition.specs.Condition.{Judge};
+ghost use Rattle.entry.specs.Field.{Entry as Held};
 ghost use Rattle.entry.specs.Entry.{entryOf};
-ghost use Rattle.entry.specs.Contract.{Holds, Sums, otherAt, settingsIn};
+ghost use Rattle.entry.specs.Contract.{Sums, isOther, settingsIn};
 
-// The settings with those of one more field, by its text.
-fn with_text(own: Own, entry: Entry, text: &[u8], args: &[u8]) -> Own
-    ensures { λ r. ⌜ ((j : Bool) (c : List ℕ) (t : ℕ → List ℕ) (p : Stand) (e : Held) (ps : List ArgumentPattern) (ss : List Setting) → Holds j c t entry p e → length (now (text .entry)) ≤ 1024 → Sums ps (stringsIn (now (args .entry))) own ss → Sums ps (stringsIn (now (args .entry))) r (ss ++ cond (otherAt p (now (text .entry))) (settingsIn (optionOf false (now (text .entry)))) [])) ⌝ }
+// The settings with those of one more field, by what it is and its text.
+fn with_text(own: Own, kind: FieldKind, text: &[u8], args: &[u8]) -> Own
+    ensures { λ r. ⌜ ((ps : List ArgumentPattern) (ss : List Setting) → length (now (text .entry)) ≤ 1024 → Sums ps (stringsIn (now (args .entry))) own ss → Sums ps (stringsIn (now (args .entry))) r (ss ++ cond (isOther kind) (settingsIn (optionOf false (now (text .entry)))) [])) ⌝ }
 {
-    if entry.takes_other(text) {
+    if kind.is_other() {
         return own.add(text, args);
     }
     own
 }
 
-// The settings of the fields from one on, over the argument patterns in force.
+// The settings of the fields from one on, over the argument patterns in force, whatever is judged.
 pub fn own_settings<'a, 'b>(
     failures: Failures,
     text: &'a [u8],
@@ -46,20 +44,18 @@ pub fn own_settings<'a, 'b>(
     count: usize,
     from: usize,
     user: &[u8],
-    groups: &[u8],
     host: &[u8],
-    minute: WeekMinute,
     args: &[u8],
     bytes: &'b [u8; Variables::BYTES],
     sizes: &'b [usize; Variables::SIZES],
     names: usize,
     scratch: &mut [u8; FieldText::BYTES],
 ) -> Own
-    ensures { λ r. ⌜ ((ps : List ArgumentPattern) (e : Held) → failures .at ≡ failuresOf ps (stringsIn (now (args .entry))) → entryOf (judgeOf (now (user .entry)) (stringsIn (now (groups .entry))) (now (host .entry)) (minute .0)) (scopeIn (now (user .entry)) (now (host .entry)) (now (bytes .entry)) (now (sizes .entry)) names) (drop from (fieldsIn (now (text .entry)) (now (ends .entry)) count)) ≡ value e → Sums ps (stringsIn (now (args .entry))) r (e .settings)) ⌝ }
+    ensures { λ r. ⌜ ((judge : Judge) (ps : List ArgumentPattern) (e : Held) → failures .at ≡ failuresOf ps (stringsIn (now (args .entry))) → entryOf judge (scopeIn (now (user .entry)) (now (host .entry)) (now (bytes .entry)) (now (sizes .entry)) names) (drop from (fieldsIn (now (text .entry)) (now (ends .entry)) count)) ≡ value e → Sums ps (stringsIn (now (args .entry))) r (e .settings)) ⌝ }
 {
     let most = at_most(count, ScannedLine::FIELDS);
     let mut own = Own::new(failures);
-    let mut entry = Entry::new();
+    let mut position = Position::First;
     let mut i = from;
     while i < most {
         let FieldText::Text(n) = field_text(
@@ -74,9 +70,9 @@ pub fn own_settings<'a, 'b>(
             return own;
         };
         let all = &scratch[..];
-        own = with_text(own, entry, &all[..n], args);
-        let added = entry.add(i, &all[..n], false, b"", user, groups, host, minute);
-        entry = added.entry;
+        let kind = position.kind(&all[..n]);
+        own = with_text(own, kind, &all[..n], args);
+        position = kind.next();
         i += 1;
     }
     own
