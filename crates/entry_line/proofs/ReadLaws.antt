@@ -1,6 +1,6 @@
 -- The fields of an entry from left to right, each by its text: one field more, all of them, and what the whole entry comes to.
 use mathlib.Core.Path.{_≡_, refl, sym, ap, _∙_}
-use mathlib.Core.Bool.{Bool, true, false, not, _&&_}
+use mathlib.Core.Bool.{Bool, true, false, not, cond, _&&_}
 use mathlib.Core.List.{List, [], _∷_}
 use mathlib.Core.Option.{some, Option·map}
 use Prim.Native.Nat.{ℕ, _+_, _-_, _≤_, _<_, min}
@@ -22,7 +22,7 @@ use Rattle.variables.specs.Scope.{Scope}
 use Rattle.variables.specs.Substitute.{fieldText}
 use Rattle.variables.specs.Contract.{literal, verbatim, Substitutes}
 use Rattle.variables.specs.declared.field.FieldText.{FieldText}
-use Rattle.variables.proofs.TextLaws.{text-fault, text-value, text-short}
+use Rattle.variables.proofs.TextLaws.{text-fault, text-value, text-short, text-length}
 use Rattle.variables.proofs.VerbatimLaws.{verbatim-text}
 use Rattle.options.specs.Read.{twice}
 use Rattle.condition.specs.Condition.{Judge}
@@ -36,7 +36,7 @@ use Rattle.entry.specs.declared.entry.FieldOutcome.the-variants.{Good, Fault}
 use Rattle.entry.proofs.EntryLaws.{entryAfter, entry-start, entry-end, entry-text, entry-fault, entry-on}
 use Rattle.entry.proofs.FinishLaws.{path-kept, unmatched}
 use Rattle.entry_line.specs.declared.read.EntryAction.{EntryAction}
-use Rattle.entry_line.specs.Contract.{textOr, textsIn, Reads, acceptsIf, Acting, Acts}
+use Rattle.entry_line.specs.Contract.{textOr, textsIn, TextUnless, Reads, acceptsIf, Acting, Acts}
 use Rattle.variables.specs.declared.field.FieldText.the-variants.{Text, Fault as NoText}
 use Rattle.entry.specs.declared.entry.Entry.{Entry as Kept}
 use Rattle.entry_line.specs.declared.read.EntryAction.the-variants.{Fault as EntryFault, Accepts}
@@ -48,7 +48,7 @@ stopped k d = record { entry = k; outcome = Fault d }
 -- ---- one field
 module _ {j : Bool} {c : List ℕ} {t : ℕ → List ℕ} {e : Entry} (s : Scope) (f : List ℕ) (o : List ℕ → Reading Cause FieldRead) (i : ℕ) {r : Added} (te : t i ≡ textOr f (fieldText s f)) where
   -- a field that is its own text
-  pub verbatim-added : verbatim f ≡ true → (t i ≡ f → Adds j c t e (require (leb (length f) 1024) FieldLength (o f)) r) → Adds j c t e (andThen (fieldText s f) o) r
+  verbatim-added : verbatim f ≡ true → (t i ≡ f → Adds j c t e (require (leb (length f) 1024) FieldLength (o f)) r) → Adds j c t e (andThen (fieldText s f) o) r
   verbatim-added v g = rw (verbatim-text s f v) (go (leb (length f) 1024) (rw (verbatim-text s f v) at te) g)
     where
       go : (b : Bool) → t i ≡ textOr f (require b FieldLength (value f)) → (t i ≡ f → Adds j c t e (require b FieldLength (o f)) r) → Adds j c t e (andThen (require b FieldLength (value f)) o) r
@@ -56,14 +56,45 @@ module _ {j : Bool} {c : List ℕ} {t : ℕ → List ℕ} {e : Entry} (s : Scope
       go false q k = k q
 
   -- a field whose text was written
-  pub text-added : {old new : List ℕ} {x : FieldText} {n : ℕ} → x ≡ Text n → Substitutes s f old new x → (t i ≡ take n new → Adds j c t e (require (leb (length (take n new)) 1024) FieldLength (o (take n new))) r) → Adds j c t e (andThen (fieldText s f) o) r
+  text-added : {old new : List ℕ} {x : FieldText} {n : ℕ} → x ≡ Text n → Substitutes s f old new x → (t i ≡ take n new → Adds j c t e (require (leb (length (take n new)) 1024) FieldLength (o (take n new))) r) → Adds j c t e (andThen (fieldText s f) o) r
   text-added g w k =
       let v = text-value w g in
       rw (← v) (rw (le-leb _ _ (text-short w g)) at (k (rw (← v) at te)))
 
 -- a field that has no text
-pub text-refused : {j : Bool} {c : List ℕ} {t : ℕ → List ℕ} {e : Entry} (s : Scope) (f : List ℕ) (o : List ℕ → Reading Cause FieldRead) {k : Kept} {old new : List ℕ} {x : FieldText} {d : Cause} → x ≡ NoText d → Substitutes s f old new x → Adds j c t e (andThen (fieldText s f) o) (stopped k d)
+text-refused : {j : Bool} {c : List ℕ} {t : ℕ → List ℕ} {e : Entry} (s : Scope) (f : List ℕ) (o : List ℕ → Reading Cause FieldRead) {k : Kept} {old new : List ℕ} {x : FieldText} {d : Cause} → x ≡ NoText d → Substitutes s f old new x → Adds j c t e (andThen (fieldText s f) o) (stopped k d)
 text-refused s f o g w = record { adds = rw (← text-fault w g) refl }
+
+-- a field whose text was written unless it is the field itself
+pub text-itself : {b : Bool} (s : Scope) (f old new : List ℕ) → b ≡ true → TextUnless b s f old new (Text 0)
+text-itself s f old new q = record { itself = λ z. refl; written = λ z. clash cc }
+
+pub text-written : {b : Bool} {s : Scope} {f old new : List ℕ} {x : FieldText} → b ≡ false → Substitutes s f old new x → TextUnless b s f old new x
+text-written q w = record { itself = λ z. clash cc; written = λ z. w }
+
+module _ {b : Bool} {s : Scope} {f old new : List ℕ} {x : FieldText} (w : TextUnless b s f old new x) where
+  -- the buffer holds all bytes of what was written
+  pub unless-length : {n : ℕ} → x ≡ Text n → length new ≡ 1024 → n ≡ length (take n new)
+  unless-length {n} g l = go b refl
+    where
+      go : (v : Bool) → b ≡ v → n ≡ length (take n new)
+      go true q = let h = w .itself q in let z : n ≡ 0 = cc in rw z
+      go false q = text-length (w .written q) g l
+
+  module _ {j : Bool} {c : List ℕ} {t : ℕ → List ℕ} {e : Entry} (o : List ℕ → Reading Cause FieldRead) where
+    pub unless-refused : {k : Kept} {d : Cause} → x ≡ NoText d → Adds j c t e (andThen (fieldText s f) o) (stopped k d)
+    unless-refused {k} {d} g = go b refl
+      where
+        go : (v : Bool) → b ≡ v → Adds j c t e (andThen (fieldText s f) o) (stopped k d)
+        go true q = clash (let h = w .itself q in cc)
+        go false q = text-refused s f o g (w .written q)
+
+    pub unless-added : (i : ℕ) {r : Added} {y : List ℕ} {n : ℕ} → t i ≡ textOr f (fieldText s f) → b ≡ verbatim f → x ≡ Text n → y ≡ cond b f (take n new) → (t i ≡ y → Adds j c t e (require (leb (length y) 1024) FieldLength (o y)) r) → Adds j c t e (andThen (fieldText s f) o) r
+    unless-added i {r} {y} {n} te v g h k = go b refl h
+      where
+        go : (a : Bool) → b ≡ a → y ≡ cond a f (take n new) → Adds j c t e (andThen (fieldText s f) o) r
+        go true q h = verbatim-added s f o i te (sym v ∙ q) (rw h at k)
+        go false q h = text-added s f o i te g (w .written q) (rw h at k)
 
 -- what was read of a field, by what came of it
 module _ {j : Bool} {c : List ℕ} {t : ℕ → List ℕ} {e : Entry} {r : Added} where

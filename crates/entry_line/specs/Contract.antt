@@ -11,6 +11,9 @@ use Rattle.fault.specs.Fault.{Reading, fault, value}
 use Rattle.fault.specs.declared.Cause.{Cause}
 use Rattle.variables.specs.Scope.{Scope}
 use Rattle.variables.specs.Substitute.{fieldText}
+use Rattle.variables.specs.Contract.{Substitutes}
+use Rattle.variables.specs.declared.field.FieldText.{FieldText}
+use Rattle.variables.specs.declared.field.FieldText.the-variants.{Text}
 use Rattle.entry.specs.Field.{Entry, Position}
 use Rattle.entry.specs.Entry.{conditionsAccept}
 use Rattle.entry.specs.Path.{starred, pathFor}
@@ -28,6 +31,11 @@ textOr f (value t) = t
 -- the texts of the fields, by their numbers
 unfoldable pub textsIn : Scope → List (List ℕ) → ℕ → List ℕ
 textsIn sc fs i = textOr (getD fs i []) (fieldText sc (getD fs i []))
+
+-- the field's text was written, unless it is the field itself
+pub record TextUnless (same : Bool) (sc : Scope) (f old new : List ℕ) (r : FieldText) : Type 0 where
+  pub itself : same ≡ true → r ≡ Text 0
+  pub written : same ≡ false → Substitutes sc f old new r
 
 -- what is kept of an entry that was read: its fault, or what its fields hold
 abbrev pub ReadsIn : Bool → List ℕ → (ℕ → List ℕ) → Reading Cause Entry → Added → Type 0

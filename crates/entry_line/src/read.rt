@@ -14,7 +14,7 @@ use variables::field::field_text;
 use variables::field::is_verbatim;
 ghost use Prim.Native.Nat.{ℕ};
 ghost use mathlib.Core.Path.{_≡_};
-ghost use mathlib.Core.Bool.{true};
+ghost use mathlib.Core.Bool.{true, cond};
 ghost use mathlib.Core.List.{List};
 ghost use lib.ListN.{drop, take};
 ghost use Rattle.fault.specs.Fault.{andThen};
@@ -26,7 +26,7 @@ ghost use Rattle.condition.specs.Condition.{judgeOf};
 ghost use Rattle.entry.specs.Field.{Entry as Held, Position as Stand, fieldOf};
 ghost use Rattle.entry.specs.Entry.{entryOf};
 ghost use Rattle.entry.specs.Contract.{Holds, Adds};
-ghost use Rattle.entry_line.specs.Contract.{textOr, textsIn, Reads, Acting, Acts};
+ghost use Rattle.entry_line.specs.Contract.{textOr, textsIn, TextUnless, Reads, Acting, Acts};
 
 // What a line that is an entry comes to.
 pub enum EntryAction {
@@ -55,6 +55,35 @@ fn stays(known: bool, field: &[u8]) -> bool
     is_verbatim(field)
 }
 
+// The first of two slices, or the second.
+fn either<'a>(first: bool, a: &'a [u8], b: &'a [u8]) -> &'a [u8]
+    ensures { λ r. ⌜ now r ≡ cond first (now (a .entry)) (now (b .entry)) ⌝ }
+{
+    if first {
+        return a;
+    }
+    b
+}
+
+// The text of a field, unless it is the field itself: then nothing is written.
+fn text_unless<'a>(
+    same: bool,
+    bytes: &'a [u8; Variables::BYTES],
+    sizes: &'a [usize; Variables::SIZES],
+    names: usize,
+    user: &[u8],
+    host: &[u8],
+    field: &[u8],
+    scratch: &mut [u8; FieldText::BYTES],
+) -> FieldText
+    ensures { λ r. ⌜ TextUnless same (scopeIn (now (user .entry)) (now (host .entry)) (now (bytes .entry)) (now (sizes .entry)) names) (now (field .entry)) (now (scratch .entry)) (now (scratch .exit)) r ⌝ }
+{
+    if same {
+        return FieldText::Text(0);
+    }
+    field_text(bytes, sizes, names, user, host, field, scratch)
+}
+
 // One field more, as it is written: where it is its own text, nothing is copied.
 fn add_field<'a>(
     entry: Entry,
@@ -75,26 +104,16 @@ fn add_field<'a>(
     requires { ⌜ (known ≡ true → verbatim (now field) ≡ true) ⌝ }
     ensures { λ r. ⌜ ((t : ℕ → List ℕ) (p : Stand) (e : Held) → t index ≡ textOr (now (field .entry)) (fieldText (scopeIn (now (user .entry)) (now (host .entry)) (now (bytes .entry)) (now (sizes .entry)) names) (now (field .entry))) → Holds judging (now (command .entry)) t entry p e → Adds judging (now (command .entry)) t e (andThen (fieldText (scopeIn (now (user .entry)) (now (host .entry)) (now (bytes .entry)) (now (sizes .entry)) names) (now (field .entry))) (fieldOf (judgeOf (now (user .entry)) (stringsIn (now (groups .entry))) (now (host .entry)) (minute .0)) p)) r) ⌝ }
 {
-    if stays(known, field) {
-        return entry.add(index, field, judging, command, user, groups, host, minute);
-    }
-    match field_text(bytes, sizes, names, user, host, field, scratch) {
+    let same = stays(known, field);
+    match text_unless(same, bytes, sizes, names, user, host, field, scratch) {
         FieldText::Fault(cause) => Added {
             entry,
             outcome: FieldOutcome::Fault(cause),
         },
         FieldText::Text(n) => {
             let all = &scratch[..];
-            entry.add(
-                index,
-                &all[..n],
-                judging,
-                command,
-                user,
-                groups,
-                host,
-                minute,
-            )
+            let text = either(same, field, &all[..n]);
+            entry.add(index, text, judging, command, user, groups, host, minute)
         }
     }
 }
