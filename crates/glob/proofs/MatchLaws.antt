@@ -1,6 +1,6 @@
 -- The laws of matching, at a place of a pattern and a place of a name. Assumes nothing.
 use mathlib.Core.Path.{_≡_, refl, sym, ap, _∙_}
-use mathlib.Core.Bool.{Bool, true, false, cond, _&&_}
+use mathlib.Core.Bool.{Bool, true, false, cond, _&&_, _||_}
 use mathlib.Core.List.{List, [], _∷_, _++_, append-nil, append-assoc}
 use mathlib.Core.Option.{Option, none, some}
 use Prim.Native.Nat.{ℕ, _+_, _-_, _≤_, _<_}
@@ -103,6 +103,16 @@ null-drop s j h = elim (decLt j (length s)) [ yes g ↦ rw (next s j g, lt-leb _
     end : length s ≤ j → null (drop j s) ≡ leb (length s) j
     end g = rw (drop-of-length-le s g, le-leb _ _ g)
 
+again : (x y : Bool) → (x || y) || y ≡ x || y
+again true y = refl
+again false true = refl
+again false false = refl
+
+any-tails : (f : List ℕ → Bool) (s : List ℕ) → any (λ t. any f (tails t)) (tails s) ≡ any f (tails s)
+unfolding any tails
+any-tails f [] = again (f []) false
+any-tails f (a ∷ s) = rw (any-tails f s) (again (f (a ∷ s)) (any f (tails s)))
+
 module _ (p s : List ℕ) (i j : ℕ) where
   pub at-end : length p ≤ i → j ≤ length s → leb (length s) j ≡ matches (drop i p) (drop j s)
   unfolding matches tokens matchTokens
@@ -116,6 +126,11 @@ module _ (p s : List ℕ) (i j : ℕ) where
         go : (t : List ℕ) → matchTokens (tokens (drop (i + 1) p)) t ≡ true → true ≡ any (matchTokens (tokens (drop (i + 1) p))) (tails t)
         go [] h = rw h
         go (a ∷ t) h = rw h
+
+    -- stars side by side take what one does
+    pub star-star : signOf (getD p i 0) ≡ star → i + 1 < length p → signOf (getD p (i + 1) 0) ≡ star → matches (drop (i + 1) p) (drop j s) ≡ matches (drop i p) (drop j s)
+    unfolding matches matchTokens
+    star-star e g f = rw (next p i l, tokens-star _ _ e, next p (i + 1) g, tokens-star _ _ f) (sym (any-tails (matchTokens (tokens (drop (i + 1 + 1) p))) (drop j s)))
 
     pub star-end : signOf (getD p i 0) ≡ star → matches (drop (i + 1) p) (drop j s) ≡ false → length s ≤ j → false ≡ matches (drop i p) (drop j s)
     unfolding matches matchTokens any tails
