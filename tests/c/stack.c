@@ -134,6 +134,12 @@ static void patterns(void) {
     command = long_name;
     add("*y*y*y /p ann\n", 1);
     measure("three stars that match nothing", SUPERTAB_NO_ENTRY);
+    begin();
+    command = long_name;
+    add("*x", 256);
+    add(" /p ann\n", 1);
+    measure("256 stars on a command of 256 bytes", SUPERTAB_PERMIT);
+    repeated("1,023 stars", "", "*", 1023, " /p ann\n", SUPERTAB_PERMIT);
 }
 
 /* 64 names of 64 bytes with texts of 256 bytes. */
