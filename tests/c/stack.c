@@ -108,6 +108,20 @@ static void repeated(const char *name, const char *before, const char *unit, siz
     measure(name, wanted);
 }
 
+/* 64 arguments of 256 bytes, 32 groups. */
+static void long_question(void) {
+    for (int i = 0; i < 64; i++) {
+        memset(arguments + arguments_length, 'a', 256);
+        arguments_length += 256;
+        arguments[arguments_length++] = 0;
+    }
+    for (int i = 0; i < 32; i++) {
+        memset(groups + groups_length, 'g', 32);
+        groups_length += 32;
+        groups[groups_length++] = 0;
+    }
+}
+
 static void patterns(void) {
     repeated("1,024 plain bytes in a command pattern", "", "x", 1024, " /p ann\n", SUPERTAB_NO_ENTRY);
     repeated("1,024 plain bytes in a user pattern", "c /p ", "x", 1024, "\n", SUPERTAB_NO_ENTRY);
@@ -139,6 +153,18 @@ static void patterns(void) {
     add("*x", 256);
     add(" /p ann\n", 1);
     measure("256 stars on a command of 256 bytes", SUPERTAB_PERMIT);
+    begin();
+    command = long_name;
+    add("{", 1);
+    add("*x", 256);
+    add(",y} /p ann\n", 1);
+    measure("256 stars in braces", SUPERTAB_PERMIT);
+    begin();
+    long_question();
+    add("c /p ann arg1={", 1);
+    add("*a", 256);
+    add(",y}\n", 1);
+    measure("256 stars in braces for an argument", SUPERTAB_PERMIT);
     repeated("1,023 stars", "", "*", 1023, " /p ann\n", SUPERTAB_PERMIT);
 }
 
@@ -154,20 +180,6 @@ static void add_definitions(void) {
         add(" ", 1);
         add("t", 256);
         add("\n", 1);
-    }
-}
-
-/* 64 arguments of 256 bytes, 32 groups. */
-static void long_question(void) {
-    for (int i = 0; i < 64; i++) {
-        memset(arguments + arguments_length, 'a', 256);
-        arguments_length += 256;
-        arguments[arguments_length++] = 0;
-    }
-    for (int i = 0; i < 32; i++) {
-        memset(groups + groups_length, 'g', 32);
-        groups_length += 32;
-        groups[groups_length++] = 0;
     }
 }
 
