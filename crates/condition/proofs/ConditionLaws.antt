@@ -3,7 +3,7 @@ use mathlib.Core.Path.{_≡_, refl, sym, ap, _∙_, fun-ext}
 use mathlib.Core.Bool.{Bool, true, false, not, cond, _&&_, _||_}
 use mathlib.Core.List.{List, [], _∷_, map}
 use mathlib.Core.Option.{Option, none, some, Option·map}
-use Prim.Native.Nat.{ℕ, _≤_, _<_}
+use Prim.Native.Nat.{ℕ, _<_}
 use native.Mathlib.Omega.{arith}
 use lib.ListN.{length, drop, length-map}
 use Rattle.text.specs.Lists.{has, null}
@@ -11,7 +11,7 @@ use Rattle.text.specs.Slice.{headIs}
 use Rattle.text.proofs.Laws.{pick-of, clash}
 use Rattle.fault.specs.Fault.{Reading, fault, value, andThen, needed, readAll, require}
 use Rattle.fault.specs.declared.Cause.{Cause}
-use Rattle.fault.specs.declared.Cause.the-variants.{Pattern as BadPattern, PatternSize, OptionName}
+use Rattle.fault.specs.declared.Cause.the-variants.{OptionName}
 use Rattle.pattern.specs.declared.Syntax.{Syntax}
 use Rattle.pattern.specs.Tree.{expanded}
 use Rattle.pattern.proofs.WholeLaws.{expanded-some}

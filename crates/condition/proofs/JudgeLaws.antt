@@ -1,7 +1,7 @@
 -- What the code finds of an alternative is what the judge says of it.
-use mathlib.Core.Path.{_≡_, refl, sym, ap, _∙_}
+use mathlib.Core.Path.{_≡_, refl, ap, _∙_}
 use mathlib.Core.Bool.{Bool, true, false, not, cond, _&&_}
-use mathlib.Core.List.{List, []}
+use mathlib.Core.List.{List}
 use mathlib.Core.Option.{Option, none, some, Option·map}
 use Prim.Native.Nat.{ℕ, _+_, _-_, _≤_, _<_}
 use borrow.Author.Tests.{not-true, not-false}
@@ -11,8 +11,7 @@ use Rattle.text.proofs.Laws.{both-no, both-yes, both-assoc, clash}
 use Rattle.question.specs.Contract.{stringsIn, untilZero}
 use Rattle.question.proofs.ZeroEnded.{in-at, in-open, in-end}
 use Rattle.glob.specs.Match.{matches}
-use Rattle.glob.specs.Alternative.{Alternative, alternativeOf}
-use Rattle.times.specs.declared.item.ItemAnswer.{ItemAnswer}
+use Rattle.glob.specs.Alternative.{alternativeOf}
 use Rattle.times.specs.declared.item.ItemAnswer.the-variants.{Matches, Misses as ItemMisses, Malformed as NoItem}
 use Rattle.times.specs.declared.item.TimeItem.{TimeItem}
 use Rattle.times.specs.Item.{itemOf, itemMatches}

@@ -1,5 +1,5 @@
 -- The prefix that the code tells is the definition's, and it ends within the text.
-use mathlib.Core.Path.{_≡_, refl}
+use mathlib.Core.Path.{_≡_}
 use mathlib.Core.Bool.{Bool, true, false}
 use mathlib.Core.List.{List}
 use Prim.Native.Nat.{ℕ, _≤_}
@@ -10,7 +10,6 @@ use Rattle.text.specs.Slice.{startsWith}
 use Rattle.text.proofs.Slices.{starts-length}
 use Rattle.condition.specs.declared.prefix.Asks.{Asks}
 use Rattle.condition.specs.declared.prefix.Asks.the-variants.{User, Group, Time}
-use Rattle.condition.specs.declared.prefix.Prefix.{Prefix}
 use Rattle.condition.specs.Condition.{prefixed}
 use Rattle.condition.specs.Contract.{prefixedIn}
 

@@ -1,18 +1,15 @@
 -- What a field's text comes to, step by step: its `!`, its prefix and the `=` rule, its pattern.
 use mathlib.Core.Path.{_≡_, refl, sym, ap, _∙_}
-use mathlib.Core.Bool.{Bool, true, false, not, cond, _&&_, _||_}
+use mathlib.Core.Bool.{Bool, true, false, not, cond, _||_}
 use mathlib.Core.List.{List, [], _∷_}
-use mathlib.Core.Option.{Option, none, some}
 use Prim.Native.Nat.{ℕ, _≤_, _<_}
-use native.Mathlib.Omega.{arith}
-use borrow.Author.Tests.{le-leb, lt-leb, not-false, eqb-true}
+use borrow.Author.Tests.{le-leb, lt-leb}
 use lib.Dec.{eqb, leb}
-use lib.ListN.{length, drop, getD}
+use lib.ListN.{length, drop}
 use Rattle.text.specs.Lists.{has}
 use Rattle.text.specs.Slice.{headIs}
 use Rattle.text.specs.Contract.{findByte}
 use Rattle.text.specs.declared.slice.Found.the-variants.{At, Nothing}
-use Rattle.text.proofs.Laws.{both-true}
 use Rattle.text.proofs.Lists.{has-at}
 use Rattle.text.proofs.Slices.{byte-at, byte-none}
 use Rattle.fault.specs.Fault.{Reading, fault, value, andThen, readAll, require}
@@ -29,8 +26,8 @@ use Rattle.condition.specs.declared.condition.Added.the-variants.{Fault 
 use Rattle.condition.specs.declared.condition.ConditionRead.{ConditionRead}
 use Rattle.condition.specs.declared.condition.ConditionRead.the-variants.{Fault}
 use Rattle.condition.specs.Rightmost.{Judged}
-use Rattle.condition.specs.Condition.{Sort, Judge, judgeOf, kindFor, alternativeRead, alternativesOf, prefixed, conditionBehind, conditionOf}
-use Rattle.condition.specs.Contract.{sortIn, prefixedIn, addedAll, addedBy, keptFor, readAdded, conditionRead}
+use Rattle.condition.specs.Condition.{Sort, Judge, kindFor, alternativeRead, alternativesOf, prefixed, conditionBehind, conditionOf}
+use Rattle.condition.specs.Contract.{sortIn, prefixedIn, addedBy, keptFor, readAdded, conditionRead}
 
 -- ---- no `=` without a prefix
 module _ (written : Bool) (t : List ℕ) (w : written ≡ false) where

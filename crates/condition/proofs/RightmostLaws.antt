@@ -1,5 +1,5 @@
 -- What is kept of the alternatives is what the rule asks of them; the rule over two runs, one behind the other.
-use mathlib.Core.Path.{_≡_, refl, sym, ap, _∙_}
+use mathlib.Core.Path.{_≡_, refl, ap, _∙_}
 use mathlib.Core.Bool.{Bool, true, false, not, cond, _&&_, _||_}
 use mathlib.Core.List.{List, [], _∷_, _++_}
 use mathlib.Core.Option.{Option, none, some, orElse, Option·getD}
@@ -7,7 +7,6 @@ use Rattle.text.specs.Lists.{all, null}
 use Rattle.text.proofs.Laws.{both-assoc}
 use Rattle.condition.specs.declared.rightmost.Rightmost.{Rightmost}
 use Rattle.condition.specs.Rightmost.{Judged, saidBy, rightmost}
-use Rattle.condition.specs.Users.{usersAccept}
 use Rattle.condition.specs.Times.{timesAccept}
 use Rattle.condition.specs.Contract.{noneKept, added, addedAll, saysOr}
 

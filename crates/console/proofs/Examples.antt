@@ -15,7 +15,7 @@ use Rattle.answer.specs.Meaning.{Asked}
 use Rattle.console.specs.QuestionLine.{numberIn, minuteIn, ageIn, groupsIn, argumentsIn, askedFrom, goodLine, askedIn}
 use Rattle.output.specs.Decimal.{written, decimal}
 use Rattle.console.specs.Printed.{idText, grantText, stopText, refusalText, printed}
-use Rattle.options.specs.declared.timeout.Timeout.the-variants.{Unset, Minutes as TimeoutMinutes}
+use Rattle.options.specs.declared.timeout.Timeout.the-variants.{Unset}
 
 -- ---- what a question line asks
 asked : List ℕ → List ℕ → List ℕ → List ℕ → ℕ → LastAuthentication → List ℕ → Option Asked

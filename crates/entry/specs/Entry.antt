@@ -12,7 +12,7 @@ use Rattle.options.specs.Read.{twice}
 use Rattle.condition.specs.Users.{usersAccept}
 use Rattle.condition.specs.Times.{timesAccept}
 use Rattle.condition.specs.Condition.{Judge}
-use Rattle.entry.specs.Field.{Entry, noField, followed, Position, first, FieldRead, fieldOf}
+use Rattle.entry.specs.Field.{Entry, noField, followed, Position, first, fieldOf}
 
 -- "fields left to right; inside a field: bad `$`, length after substitution", then the rest of the field
 unfoldable pub fieldsFrom : Judge → Scope → Position → List (List ℕ) → Reading Cause Entry

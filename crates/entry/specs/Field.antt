@@ -17,7 +17,7 @@ use Rattle.pattern.specs.declared.Syntax.the-variants.{Plain}
 use Rattle.pattern.specs.Tree.{expanded}
 use Rattle.options.specs.Read.{Setting, optionOf}
 use Rattle.condition.specs.Rightmost.{Judged}
-use Rattle.condition.specs.Condition.{Sort, user, group, time, Condition, conditionOf, Judge}
+use Rattle.condition.specs.Condition.{Sort, user, group, time, conditionOf, Judge}
 
 -- a command pattern's brace-free expansions, with its path
 pub record Pair : Type 0 where

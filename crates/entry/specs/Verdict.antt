@@ -1,6 +1,6 @@
 -- What the deciding entry answers: nargs, argument patterns, path length, password, in that order (01, "Options").
 use Prim.Native.Nat.{ℕ}
-use mathlib.Core.Bool.{Bool, not, cond}
+use mathlib.Core.Bool.{not, cond}
 use mathlib.Core.List.{List}
 use mathlib.Core.Option.{Option, none, some}
 use lib.Dec.{ltb}

@@ -2,7 +2,6 @@
 use fault::Cause;
 use glob::matcher::matches_expansion;
 use pattern::Expanded;
-use pattern::Pattern;
 use pattern::Syntax;
 use pattern::matcher::matches_pattern;
 use pattern::reader::read_expansions;

@@ -1,7 +1,7 @@
 -- What `supertab --check` prints for an answer (docs/check-words.md).
 use Prim.Native.Nat.{ℕ, min}
 use mathlib.Core.Bool.{cond}
-use mathlib.Core.List.{List, [], _∷_, _++_, map}
+use mathlib.Core.List.{List, _++_, map}
 use lib.ListN.{length}
 use Rattle.text.specs.Bytes.{bytes, byte, is}
 use Rattle.fault.specs.Fault.{numberOf}

@@ -20,7 +20,7 @@ use Rattle.glob.specs.declared.alternative.ByteContext.the-variants.{Fre
 use Rattle.glob.specs.declared.alternative.Parted.the-variants.{Malformed, Name, NameAtHost}
 use Rattle.glob.specs.Alternative.{contextAfter, partsAt, partedBy, partsOf, goodPart, fromParts, alternativeOf}
 use Rattle.glob.specs.Contract.{partsBy, PartsFrom, Simple, SimpleName, TellsAlternative}
-use Rattle.text.proofs.Laws.{next, part-rest}
+use Rattle.text.proofs.Laws.{next}
 
 -- ---- the place behind a byte
 module _ (c : ℕ) where

@@ -1,5 +1,5 @@
 -- The laws of matching, at a place of a pattern and a place of a name. Assumes nothing.
-use mathlib.Core.Path.{_≡_, refl, sym, ap, _∙_}
+use mathlib.Core.Path.{_≡_, refl, sym, _∙_}
 use mathlib.Core.Bool.{Bool, true, false, cond, _&&_, _||_}
 use mathlib.Core.List.{List, [], _∷_, _++_, append-nil, append-assoc}
 use mathlib.Core.Option.{Option, none, some}
@@ -11,7 +11,7 @@ use lib.Dec.{eqb, leb}
 use lib.ListN.{length, take, drop, getD, drop-of-length-le}
 use Rattle.text.specs.Lists.{null, any}
 use Rattle.text.specs.Parts.{Parts, partAt}
-use Rattle.text.proofs.Laws.{next, clash}
+use Rattle.text.proofs.Laws.{next}
 use Rattle.glob.specs.Set.{inSet}
 use Rattle.text.specs.Contract.{lead}
 use Rattle.glob.specs.Match.{Token, anyRun, anyByte, noByte, thisByte, byteOf, Sign, star, question, backslash, bracket, ordinary, signOf, tokens, escapedTokens, setTokens, tails, matchTokens, matches}

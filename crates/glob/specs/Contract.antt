@@ -1,10 +1,9 @@
 -- What only contracts and proofs cite: the answers of the functions hold places, those of the definitions lists.
-use Prim.Native.Nat.{ℕ, suc, _+_, _-_, _≤_, _<_}
+use Prim.Native.Nat.{ℕ, _+_, _-_, _≤_, _<_}
 use mathlib.Core.Path.{_≡_}
-use mathlib.Core.Bool.{false, cond}
+use mathlib.Core.Bool.{false}
 use mathlib.Core.List.{List, [], _∷_}
 use mathlib.Core.Option.{Option, none, some}
-use lib.Dec.{eqb}
 use lib.ListN.{length, drop, take, getD}
 use Rattle.text.specs.Class.{range}
 use Rattle.text.specs.Lists.{has}

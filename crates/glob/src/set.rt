@@ -1,13 +1,11 @@
 // The bytes between the brackets of a set.
 use text::slice::byte_from;
 use text::slice::past_head;
-ghost use mathlib.Core.Bool.{cond};
 ghost use mathlib.Core.Path.{_≡_};
 ghost use Prim.Native.Nat.{_+_, _≤_, _<_};
 ghost use lib.ListN.{length, drop};
 ghost use Rattle.text.specs.Class.{range, inRange};
 ghost use Rattle.text.specs.Lists.{all};
-ghost use Rattle.text.specs.Slice.{headIs};
 ghost use Rattle.glob.specs.Set.{ranges, rising, covered, goodSet, inSet};
 ghost use Rattle.text.specs.Contract.{lead};
 ghost use Rattle.glob.specs.Contract.{RangeAt};

@@ -2,21 +2,18 @@
 use mathlib.Core.Path.{_≡_, refl, sym, ap, _∙_}
 use mathlib.Core.Bool.{Bool, true, false, cond, _||_}
 use mathlib.Core.List.{List, [], _∷_, _++_, map}
-use mathlib.Core.Logic.{inl, inr}
 use Prim.Native.Nat.{ℕ, zero, suc, _+_, _≤_, _<_}
 use native.Mathlib.Nat.{add-zero}
 use native.Mathlib.Omega.{arith}
-use borrow.Author.Tests.{eqb-true, le-ltb, lt-ltb}
-use lib.Dec.{eqb, ltb}
+use borrow.Author.Tests.{le-ltb, lt-ltb}
+use lib.Dec.{ltb}
 use lib.ListN.{length, take, replicate, set}
-use Rattle.text.specs.Bytes.{byte, is}
+use Rattle.text.specs.Bytes.{is}
 use Rattle.text.specs.Buffer.{laid}
 use Rattle.text.specs.Class.{blank, wordByte}
 use Rattle.text.specs.Quote.{quotingAfter}
-use Rattle.text.specs.declared.quote.Quoting.{Quoting}
 use Rattle.text.specs.declared.quote.Quoting.the-variants.{Outside, Single, Double}
-use Rattle.text.proofs.Laws.{either-true}
-use Rattle.line.specs.Joined.{Mode, inFields, inComment, JoinedByte, kept, between, leading, unquoted, partsFields, gives, joinBlank, modeAfter, modeJoined}
+use Rattle.line.specs.Joined.{Mode, inFields, inComment, JoinedByte, kept, between, leading, partsFields, gives, joinBlank, modeAfter, modeJoined}
 use Rattle.line.specs.Scan.{quotingAtEnd}
 use Rattle.line.specs.Contract.{quotingOf, Progress, closedIf, closedOff, longer, absorbed, absorbedAll}
 use Rattle.line.proofs.JoinedLaws.{Steady, by-blank}

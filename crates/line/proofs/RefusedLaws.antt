@@ -1,6 +1,6 @@
 -- The search for a refused byte, step by step. Assumes nothing.
 use mathlib.Core.Path.{_≡_, refl, sym}
-use mathlib.Core.Bool.{Bool, true, false, cond, _&&_, _||_}
+use mathlib.Core.Bool.{Bool, true, false, cond, _||_}
 use mathlib.Core.List.{List, [], _∷_}
 use mathlib.Core.Option.{none, some}
 use Prim.Native.Nat.{ℕ, zero, suc, _+_, _≤_, _<_}
@@ -9,7 +9,7 @@ use lib.ListN.{length, take, drop, getD, drop-of-length-le}
 use Rattle.text.specs.Bytes.{is}
 use Rattle.text.specs.Class.{classOf, blank, letter, digit, printable}
 use Rattle.text.specs.Lists.{all}
-use Rattle.text.proofs.Laws.{next, clash, both-true, both-yes, every-byte}
+use Rattle.text.proofs.Laws.{next, clash, both-true, every-byte}
 use Rattle.line.specs.Refused.{accepted, refusedFrom, refusedByte}
 
 -- the class Refused is what 12 says: "byte other than tab, newline, 0x20 to 0x7E"

@@ -1,16 +1,15 @@
 -- What the scan of a control line answers, and what a caller reads of it.
 use mathlib.Core.Path.{_≡_, refl, sym, ap, _∙_}
-use mathlib.Core.Bool.{Bool, true, false, not, cond, _&&_, _||_}
+use mathlib.Core.Bool.{Bool, true, false, not, _&&_, _||_}
 use mathlib.Core.List.{List, [], _∷_, _++_, append-assoc}
-use Prim.Native.Nat.{ℕ, zero, suc, _+_, _-_, _≤_, _<_, min}
+use Prim.Native.Nat.{ℕ, suc, _+_, _-_, _≤_, min}
 use native.Mathlib.Nat.{zero-add}
 use native.Mathlib.Omega.{arith}
-use borrow.Author.Tests.{leb-true, eq-eqb, ne-eqb}
+use borrow.Author.Tests.{leb-true, ne-eqb}
 use lib.Dec.{eqb, leb}
 use lib.ListN.{length, take, drop, getD, length-append}
 use lib.Seq.{take-all, take-append-seam, drop-append-seam}
 use Rattle.text.specs.Bytes.{is}
-use Rattle.text.specs.Buffer.{laid}
 use Rattle.text.specs.Class.{blank}
 use Rattle.text.specs.Lists.{null}
 use Rattle.text.specs.declared.quote.Quoting.the-variants.{Outside}
@@ -23,9 +22,9 @@ use Rattle.line.specs.declared.counts.Counts.{Counts}
 use Rattle.line.specs.declared.scan.ScannedLine.{ScannedLine}
 use Rattle.line.specs.declared.scan.ScannedLine.the-variants.{Good, Fault}
 use Rattle.line.specs.declared.scanner.Scanner.{Scanner}
-use Rattle.line.specs.Joined.{begins, leading, unquoted, joinedFrom, joinedLine, indented}
+use Rattle.line.specs.Joined.{begins, unquoted, joinedFrom, joinedLine, indented}
 use Rattle.line.specs.Scan.{stretches, nonEmpty, fieldsOf, quotingAtEnd, checked, scanned}
-use Rattle.line.specs.Contract.{modeOf, quotingOf, Progress, progress, closedOff, absorbedAll, startOf, Bounded, Goes, fieldsAt, fieldsIn, endsFrom, fieldsText, counted, Scans}
+use Rattle.line.specs.Contract.{modeOf, quotingOf, Progress, progress, closedOff, absorbedAll, startOf, Goes, fieldsAt, fieldsIn, endsFrom, fieldsText, counted, Scans}
 use Rattle.line.proofs.JoinedLaws.{at-end, indented-end}
 use Rattle.line.proofs.ProgressLaws.{closed-joined}
 use Rattle.line.proofs.FieldsLaws.{all-joined, all-text, laid-fields, text-few}

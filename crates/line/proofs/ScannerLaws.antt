@@ -4,9 +4,9 @@ use mathlib.Core.Bool.{Bool, true, false, not, cond, _&&_, _||_}
 use mathlib.Core.List.{List, [], _∷_, _++_, map}
 use Prim.Native.Nat.{ℕ, zero, suc, _+_, _-_, _≤_, _<_}
 use native.Mathlib.Omega.{arith}
-use borrow.Author.Tests.{eqb-true, eqb-false, ne-eqb, eq-eqb, not-true, ltb-true}
+use borrow.Author.Tests.{ne-eqb, eq-eqb, not-true, ltb-true}
 use lib.Dec.{eqb, ltb}
-use lib.ListN.{length, take, drop, getD, set, replicate, length-set, length-map}
+use lib.ListN.{length, take, drop, getD, replicate, length-set, length-map}
 use lib.Seq.{drop-drop}
 use Rattle.text.specs.Bytes.{byte, is}
 use Rattle.text.specs.Buffer.{laid}
@@ -23,7 +23,7 @@ use Rattle.line.specs.declared.run.Run.the-variants.{Blanks, Plain}
 use Rattle.line.specs.declared.scanner.Scanner.{Scanner}
 use Rattle.line.specs.Joined.{Mode, inFields, inComment, JoinedByte, kept, between, begins, leading, unquoted, partsFields, gives, joinBlank, modeAfter, modeJoined, indented}
 use Rattle.line.specs.Scan.{quotingAtEnd}
-use Rattle.line.specs.Contract.{modeOf, quotingOf, joinsAt, inRun, Progress, progress, closedIf, closedOff, longer, absorbed, absorbedAll, Few, Bounded, joinedAhead, joinedAt, Goes}
+use Rattle.line.specs.Contract.{modeOf, quotingOf, joinsAt, inRun, Progress, progress, longer, absorbed, absorbedAll, Few, Bounded, joinedAhead, joinedAt, Goes}
 use Rattle.line.proofs.JoinedLaws.{Steady, at-byte, at-join, at-run, indented-byte, indented-join, indented-run, begins-leading, lead-leading, by-blank, blank-joinless}
 use Rattle.line.proofs.ProgressLaws.{closed-of, quoting-byte, quoting-join, quoting-run, absorbed-append, absorbed-kept}
 

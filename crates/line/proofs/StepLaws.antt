@@ -1,16 +1,15 @@
 -- A fold over the control lines of a table, line by line from a place on: for callers that read the lines one after the other.
-use mathlib.Core.Path.{_≡_, refl}
+use mathlib.Core.Path.{_≡_}
 use mathlib.Core.Bool.{not}
 use mathlib.Core.List.{List, []}
 use mathlib.Core.Option.{Option}
 use Prim.Native.Nat.{ℕ, _+_, _-_, _≤_, _<_}
-use native.Mathlib.Omega.{arith}
 use borrow.Author.Tests.{lt-ltb, le-ltb}
 use lib.Dec.{ltb}
 use lib.ListN.{length, take, drop, drop-of-length-le}
 use Rattle.fault.specs.Fault.{Reading, fault, value, andThen, require}
-use Rattle.line.specs.Line.{Line, line, endedLines, placed, linesOf, lastEnd, cutShort}
-use Rattle.line.specs.Fold.{Refusal, faulty, cut, located, run, outcome}
+use Rattle.line.specs.Line.{Line, line, endedLines, placed, lastEnd}
+use Rattle.line.specs.Fold.{Refusal, faulty, cut, run, outcome}
 use Rattle.line.specs.Contract.{linesFrom, LineEnds}
 use Rattle.line.proofs.LineLaws.{short-table}
 

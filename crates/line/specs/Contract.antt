@@ -2,7 +2,7 @@
 use Prim.Native.Nat.{ℕ, _+_, _-_, _≤_, _<_, zero, suc, min}
 use mathlib.Core.Path.{_≡_}
 use mathlib.Core.Bool.{false, Bool, true, not, cond, _&&_, _||_}
-use mathlib.Core.List.{List, [], _∷_, _++_, foldr}
+use mathlib.Core.List.{List, [], _∷_, _++_}
 use mathlib.Core.Option.{Option, none, some}
 use lib.ListN.{length, take, drop, getD, set}
 use lib.Dec.{ltb}
@@ -26,7 +26,7 @@ use Rattle.line.specs.declared.scan.ScannedLine.{ScannedLine}
 use Rattle.line.specs.declared.scan.ScannedLine.the-variants.{Good, Fault}
 use Rattle.line.specs.declared.scanner.Scanner.{Scanner}
 use Rattle.line.specs.Line.{Line, line, newlines, placed, endedLines}
-use Rattle.line.specs.Joined.{Mode, inFields, inComment, JoinedByte, kept, between, begins, joins, joinedFrom, joinedLine, indented}
+use Rattle.line.specs.Joined.{Mode, inFields, inComment, JoinedByte, kept, between, joins, joinedFrom, joinedLine, indented}
 use Rattle.line.specs.Scan.{mostFields, fieldsOf, quotingAtEnd, scanned}
 
 -- the place that a search tells

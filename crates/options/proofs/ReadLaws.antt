@@ -31,7 +31,7 @@ use Rattle.options.specs.declared.read.OptionRead.{OptionRead}
 use Rattle.options.specs.declared.span.Span.{Span}
 use Rattle.options.specs.declared.span.Span.the-variants.{Nothing, Between}
 use Rattle.text.specs.declared.slice.Found.the-variants.{At, Nothing as Missing}
-use Rattle.fault.specs.declared.Cause.the-variants.{IdLength, OptionValue, PatternKind, Pattern as BadPattern, PatternSize}
+use Rattle.fault.specs.declared.Cause.the-variants.{IdLength, OptionValue, PatternKind}
 
 module _ (v : List ℕ) where
   module _ (i : Id) where

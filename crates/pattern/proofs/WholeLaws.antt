@@ -1,6 +1,6 @@
 -- The laws of whole patterns, for the functions of this layer and for those above it. Assumes nothing.
 use mathlib.Core.Path.{_≡_, refl, sym, ap, _∙_}
-use mathlib.Core.Bool.{Bool, true, false, cond, _&&_}
+use mathlib.Core.Bool.{Bool, true, false, _&&_}
 use mathlib.Core.List.{List, [], _∷_}
 use mathlib.Core.Option.{Option, none, some}
 use Prim.Native.Nat.{ℕ, _+_, _-_, _≤_, _<_, min}
@@ -27,7 +27,7 @@ use Rattle.pattern.specs.declared.Pattern.{Pattern}
 use Rattle.pattern.specs.declared.Shape.the-variants.{Malformed, Read}
 use Rattle.pattern.specs.declared.Expanded.the-variants.{Fault, Number}
 use Rattle.pattern.specs.declared.run.RunRead.the-variants.{Ends}
-use Rattle.pattern.specs.Tree.{Tree, empty, commasPart, depth, number, expansions, fits, TreeRead, parsed, malformed, patternOf, listOf, treeIn, treeOf, expanded}
+use Rattle.pattern.specs.Tree.{Tree, empty, commasPart, depth, number, expansions, fits, TreeRead, parsed, malformed, patternOf, listOf, treeOf, expanded}
 use Rattle.pattern.specs.Whole.{orNone, expansionsOf, fieldExpansions, matchesPattern}
 use Rattle.pattern.specs.Contract.{sizeOf, shapeIn, shapeOf, expandedIn, expansionAt, flat, RunAt, chosen, HasNumber, HasNth}
 use Rattle.pattern.proofs.TreeLaws.{list-first}

@@ -1,8 +1,7 @@
 -- When a password is needed (01, "Options").
-use mathlib.Core.Bool.{Bool, true, false, not, _&&_}
+use mathlib.Core.Bool.{Bool, false, not, _&&_}
 use lib.IntN.{ℤ, pos}
 use lib.Signed.{leZ, ltZ}
-use Rattle.question.specs.declared.Age.{Age}
 use Rattle.question.specs.declared.LastAuthentication.{LastAuthentication}
 use Rattle.question.specs.declared.LastAuthentication.the-variants.{Never, Minutes}
 

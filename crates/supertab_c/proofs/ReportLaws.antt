@@ -13,7 +13,6 @@ use Rattle.options.specs.declared.timeout.Timeout.{Timeout}
 use Rattle.options.specs.declared.timeout.Timeout.the-variants.{Minutes}
 use Rattle.options.specs.declared.span.Span.{Span}
 use Rattle.options.specs.declared.span.Span.the-variants.{Between}
-use Rattle.answer.specs.Answer.{toldOf}
 use Rattle.answer.specs.declared.Answer.{Answer}
 use Rattle.answer.specs.declared.Answer.the-variants.{Permit, Password, NoEntry, StoppedByNargs, StoppedByArgument, StoppedByPath, MalformedQuestion, LongTable, RefusedByte, CutShort, RefusedLine, SmallBuffer}
 use Rattle.supertab_c.specs.Report.{reportLength, most, counted, zeroPlace, bit, timeoutMinutes, nargsLow, nargsHigh, zeros, grantNumbers, placeNumbers, reportOf}

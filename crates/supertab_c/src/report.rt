@@ -4,9 +4,9 @@ use answer::Granted;
 use fault::Cause;
 use options::span::Span;
 use options::timeout::Timeout;
-ghost use Prim.Native.Nat.{ℕ, _≤_};
+ghost use Prim.Native.Nat.{_≤_};
 ghost use mathlib.Core.Path.{_≡_};
-ghost use mathlib.Core.List.{List, _++_};
+ghost use mathlib.Core.List.{_++_};
 ghost use lib.ListN.{length, drop};
 ghost use Rattle.supertab_c.specs.Report.{reportLength, counted, zeroPlace, bit, timeoutSet, timeoutMinutes, nargsSet, nargsLow, nargsHigh, causeIndex, grantNumbers, placeNumbers, reportOf};
 

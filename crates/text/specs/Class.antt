@@ -1,6 +1,6 @@
 -- The class of a byte, by ranges (01: "Every byte value from 0 to 255 has one class"), and the tests on one byte.
 use Prim.Native.Nat.{ℕ}
-use mathlib.Core.Bool.{Bool, true, false, not, cond, _&&_, _||_}
+use mathlib.Core.Bool.{Bool, not, cond, _&&_, _||_}
 use lib.Dec.{leb}
 use Rattle.text.specs.Bytes.{byte, is}
 use Rattle.text.specs.declared.class.Class.{Class}

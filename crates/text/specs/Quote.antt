@@ -1,6 +1,6 @@
 -- Quotes (01: "Quotes, single or double, keep blanks and `#` inside a field and are removed").
 use Prim.Native.Nat.{ℕ}
-use mathlib.Core.Bool.{Bool, cond}
+use mathlib.Core.Bool.{cond}
 use Rattle.text.specs.Bytes.{is}
 use Rattle.text.specs.declared.quote.Quoting.{Quoting}
 use Rattle.text.specs.declared.quote.Quoting.the-variants.{Outside, Single, Double}

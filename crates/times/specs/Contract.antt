@@ -1,6 +1,6 @@
 -- What the contracts of the functions say: the code's answers as the definitions'.
 use Prim.Native.Nat.{ℕ}
-use mathlib.Core.Bool.{Bool, true, false, cond}
+use mathlib.Core.Bool.{Bool, cond}
 use mathlib.Core.Option.{Option, none, some}
 use Rattle.times.specs.declared.clock.ClockRead.{ClockRead}
 use Rattle.times.specs.declared.clock.ClockRead.the-variants.{At, Malformed as NoClock}

@@ -2,7 +2,6 @@ use Rattle.condition.proofs.AddedLaws.{one-told}
 use Rattle.condition.specs.declared.judge.Judgement.the-variants.{Malformed, Applies, Misses}
 use Rattle.condition.specs.declared.condition.Added.the-variants.{Fault, Kept}
 use mathlib.Core.Path.{sym, ap, _∙_}
-use native.Mathlib.Omega.{arith}
 use borrow.Author.Needs.{needs}
 use Rattle.condition.proofs.condition.add_one.Statement.{statement}
 use Rattle.condition.proofs.condition.add_one.Tie as tie

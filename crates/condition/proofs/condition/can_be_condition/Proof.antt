@@ -1,6 +1,5 @@
 use Rattle.condition.proofs.ReadLaws.{equals-there, equals-none}
 use mathlib.Core.Path.{sym, _∙_}
-use native.Mathlib.Omega.{arith}
 use borrow.Author.Needs.{needs}
 use Rattle.condition.proofs.condition.can_be_condition.Statement.{statement}
 use Rattle.condition.proofs.condition.can_be_condition.Tie as tie

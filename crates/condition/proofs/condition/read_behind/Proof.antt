@@ -1,9 +1,8 @@
 use Rattle.condition.proofs.ReadLaws.{behind-bad, behind-read}
-use Rattle.text.proofs.Laws.{part-rest, part-length}
+use Rattle.text.proofs.Laws.{part-rest}
 use borrow.Author.Tests.{not-true, not-false}
 use mathlib.Core.Path.{sym, _∙_}
 use borrow.Author.Needs.{needs}
-use native.Mathlib.Omega.{arith}
 use Rattle.condition.proofs.condition.read_behind.Statement.{statement}
 use Rattle.condition.proofs.condition.read_behind.Tie as tie
 use Rattle.condition.proofs.condition.read_behind.Reads as reads

@@ -1,4 +1,3 @@
-use native.Mathlib.Omega.{arith}
 use borrow.Author.Needs.{needs}
 use Rattle.condition.proofs.condition.told.Statement.{statement}
 use Rattle.condition.proofs.condition.told.Tie as tie

@@ -1,6 +1,5 @@
 use Rattle.condition.proofs.JudgeLaws.{item-malformed, item-misses, item-matches}
 use mathlib.Core.Path.{sym, _∙_}
-use native.Mathlib.Omega.{arith}
 use borrow.Author.Needs.{needs}
 use Rattle.condition.proofs.judge.judge_time.Statement.{statement}
 use Rattle.condition.proofs.judge.judge_time.Tie as tie

@@ -1,6 +1,5 @@
 use Rattle.condition.proofs.JudgeLaws.{applies-not, applies-user, applies-group, applies-time}
 use mathlib.Core.Path.{_∙_}
-use native.Mathlib.Omega.{arith}
 use borrow.Author.Needs.{needs}
 use Rattle.condition.proofs.judge.name_matches.Statement.{statement}
 use Rattle.condition.proofs.judge.name_matches.Tie as tie

@@ -1,6 +1,5 @@
 use Rattle.condition.proofs.PrefixLaws.{prefix-user, prefix-group, prefix-time, prefix-none}
 use mathlib.Core.Path.{sym, _∙_}
-use native.Mathlib.Omega.{arith}
 use borrow.Author.Needs.{needs}
 use Rattle.condition.proofs.prefix.prefix_of.Statement.{statement}
 use Rattle.condition.proofs.prefix.prefix_of.Tie as tie

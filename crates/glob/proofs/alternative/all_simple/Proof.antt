@@ -1,9 +1,8 @@
 use native.Mathlib.Omega.{arith}
 use borrow.Author.Needs.{needs}
 use Prim.Native.Nat.{_-_, _≤_}
-use mathlib.Core.Path.{_≡_}
 use lib.ListN.{length, drop}
-use borrow.Author.Tests.{not-true, not-false}
+use borrow.Author.Tests.{not-false}
 use Rattle.glob.specs.Contract.{SimpleName}
 use Rattle.glob.proofs.AlternativeLaws.{simple-on, simple-end}
 use Rattle.text.proofs.Laws.{clash}

@@ -1,8 +1,5 @@
 use Rattle.line.proofs.AccessLaws.{field-past, field-here}
-use lib.ListN.{length}
 use native.Mathlib.Omega.{arith}
-use mathlib.Core.Path.{_≡_}
-use Prim.Native.Nat.{ℕ}
 use borrow.Author.Needs.{needs}
 use Rattle.line.proofs.fields.field.Statement.{statement}
 use Rattle.line.proofs.fields.field.Tie as tie

@@ -1,5 +1,4 @@
 use native.Mathlib.Omega.{arith}
-use borrow.Author.Needs.{needs}
 use Rattle.text.proofs.Leads.{among-on, among-end}
 use Rattle.text.specs.Lists.{has}
 use mathlib.Core.Bool.{_||_}

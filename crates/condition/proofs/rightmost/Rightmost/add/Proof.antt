@@ -1,4 +1,3 @@
-use native.Mathlib.Omega.{arith}
 use Rattle.condition.specs.Contract.{added}
 use borrow.Author.Needs.{needs}
 use Rattle.condition.proofs.rightmost.Rightmost.add.Statement.{statement}
