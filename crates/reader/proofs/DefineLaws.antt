@@ -1,5 +1,5 @@
 -- The definition that fields make: its name, its text, and that nothing stands behind it; and what its line does.
-use mathlib.Core.Path.{_≡_, refl, sym, ap, _∙_}
+use mathlib.Core.Path.{_≡_, refl, sym}
 use mathlib.Core.Bool.{not, _&&_}
 use mathlib.Core.List.{List, [], _∷_}
 use Prim.Native.Nat.{ℕ, _≤_}
@@ -14,7 +14,8 @@ use Rattle.fault.proofs.Readings.{same-value, and-then, required, never}
 use Rattle.variables.specs.Scope.{Scope, Definition, definition, define, isName, builtIn}
 use Rattle.variables.specs.Define.{defineName, defineText, defineIn}
 use Rattle.variables.specs.Substitute.{fieldText}
-use Rattle.variables.specs.Contract.{definitionsIn, scopeIn, definedIn, Goes}
+use Rattle.variables.specs.Contract.{definitionsIn, scopeIn, Goes}
+use Rattle.variables.proofs.DefineLaws.{name-short, text-short}
 use Rattle.reader.specs.State.{State, withDefinition}
 use Rattle.reader.specs.Colon.{defined, textAfter, defineLine}
 use Rattle.reader.specs.Contract.{lastRead, textRead, definitionRead, definitionIn, Within, scopeFor, LineDefines}
@@ -88,13 +89,13 @@ definition-within name text w e = rw e at w
 
 -- ---- a definition that was read is good but for the number of names
 -- a check hands on what it checked
-pub name-kept : (t n : List ℕ) → defineName t ≡ value n → t ≡ n
+name-kept : (t n : List ℕ) → defineName t ≡ value n → t ≡ n
 unfolding defineName
 name-kept t n e =
     let u = required (leb (length t) 64) NameLength _ n e in
     same-value (required (isName t && not (builtIn t)) DefineName _ n (u .1) .1)
 
-pub text-kept : (t u : List ℕ) → defineText t ≡ value u → t ≡ u
+text-kept : (t u : List ℕ) → defineText t ≡ value u → t ≡ u
 unfolding defineText
 text-kept t u e = same-value (required (leb (length t) 256) TextLength _ u e .1)
 
@@ -127,10 +128,6 @@ definition-read sc d (f ∷ fs) h =
     let u = and-then (fieldText sc f) _ d h in
     let v = and-then (defineName (u .0)) _ d (u .2) in
     text-read sc (v .0) d fs (name-again (u .0) (v .0) (v .1)) (v .2)
-
--- so all its checks are that of the number
-pub defined-read : (sc : Scope) (d : Definition) (fs : List (List ℕ)) → definitionRead sc fs ≡ value d → (ds : List Definition) → definedIn d ds ≡ defineIn d ds
-defined-read sc d fs h ds = let p = definition-read sc d fs h in rw (p .0, p .1)
 
 -- ---- the line is the definition and then the number of names
 module _ (sc : Scope) (s : State) where
@@ -172,16 +169,10 @@ module _ (sc : Scope) (s : State) where
       go (value t) = checked (defineName t)
 
 -- ---- what the line does, by its definition and the place of it
--- the variables behind a definition that passed
-defined-all : (a b n t : List ℕ) (ds es : List Definition) → a ≡ n → b ≡ t → defineIn (definition n t) ds ≡ value es → define (definition a b) ds ≡ es
+-- the variables behind a definition that is not one too many
+defined-value : (d : Definition) (ds es : List Definition) → defineIn d ds ≡ value es → define d ds ≡ es
 unfolding defineIn
-defined-all a b n t ds es p q h = rw (p, q) (same-value (required (leb (length (define (definition n t) ds)) 64) TooManyNames _ es h .1))
-
-defined-value : (d : Definition) (ds es : List Definition) → definedIn d ds ≡ value es → define d ds ≡ es
-defined-value d ds es h =
-    let u = and-then (defineName (d .name)) _ es h in
-    let v = and-then (defineText (d .text)) _ es (u .2) in
-    defined-all (d .name) (d .text) (u .0) (v .0) ds es (name-kept (d .name) (u .0) (u .1)) (text-kept (d .text) (v .0) (v .1)) (v .2)
+defined-value d ds es h = same-value (required (leb (length (define d ds)) 64) TooManyNames _ es h .1)
 
 module _ (caller host bytes sizes : List ℕ) (names : ℕ) (fs : List (List ℕ)) (name text : List ℕ) where
   -- the definition's fault is the line's
@@ -198,19 +189,20 @@ module _ (caller host bytes sizes : List ℕ) (names : ℕ) (fs : List (List ℕ
     read = definition (take k name) (take m text)
 
     -- only the number of names is left
-    line-is : (s : State) → s .definitions ≡ definitionsIn bytes sizes names → defineLine (scopeFor caller host s) s fs ≡ andThen (definedIn read (definitionsIn bytes sizes names)) (λ ds. value (withDefinition read s))
-    line-is s h =
+    line-is : (s : State) → s .definitions ≡ definitionsIn bytes sizes names → {o : Reading Cause (List Definition)} → defineIn read (definitionsIn bytes sizes names) ≡ o → defineLine (scopeFor caller host s) s fs ≡ andThen o (λ ds. value (withDefinition read s))
+    line-is s h {o} w =
         let g : value read ≡ definitionRead (scopeFor caller host s) fs = rw h e in
-        let f : defineLine (scopeFor caller host s) s fs ≡ andThen (definedIn read (s .definitions)) (λ ds. value (withDefinition read s)) = rw (define-line (scopeFor caller host s) s fs, ← g, defined-read (scopeFor caller host s) read fs (sym g) (s .definitions)) in
-        f ∙ ap (λ ds. andThen (definedIn read ds) (λ es. value (withDefinition read s))) h
+        let v : defineIn read (s .definitions) ≡ o = rw h w in
+        rw (define-line (scopeFor caller host s) s fs, ← g, v)
 
     -- it has no place
-    pub line-refused : {c : Cause} → Goes bytes sizes names read (NoPlace c) → LineDefines caller host bytes sizes names fs name text (DefineFault c)
-    line-refused w = record { defines = λ s h. line-is s h ∙ ap (λ o. andThen o (λ ds. value (withDefinition read s))) (w .goes) }
+    pub line-refused : {c : Cause} → Goes bytes sizes names (take k name) (NoPlace c) → LineDefines caller host bytes sizes names fs name text (DefineFault c)
+    line-refused w = record { defines = λ s h. line-is s h (w .goes (take m text)) }
 
     -- stored at its place, it is the state's last change
-    pub line-placed : {i n : ℕ} → k ≤ length name → m ≤ length text → Goes bytes sizes names read (PlaceAt i n) → LineDefines caller host bytes sizes names fs name text (DefineAt i n k m)
+    pub line-placed : {i n : ℕ} → k ≤ length name → m ≤ length text → Goes bytes sizes names (take k name) (PlaceAt i n) → LineDefines caller host bytes sizes names fs name text (DefineAt i n k m)
     line-placed p q w =
         let a : length (take k name) ≡ k = length-take-le k name p in
         let b : length (take m text) ≡ m = length-take-le m text q in
-        record { defines = (w .goes .0, omega (arith, a, w .goes .1), omega (arith, b, w .goes .2), p, q, λ s h x y t. let v = w .goes .3 x y t in (line-is s h ∙ ap (λ o. andThen o (λ ds. value (withDefinition read s))) v, rw h (defined-value read (definitionsIn bytes sizes names) _ v))) }
+        let d = definition-read (scopeIn caller host bytes sizes names) read fs (sym e) in
+        record { defines = (w .goes .0, omega (arith, a, name-short (take k name) (sym (d .0))), omega (arith, b, text-short (take m text) (sym (d .1))), p, q, λ s h x y t. let v = w .goes .1 (take m text) x y t in (line-is s h v, rw h (defined-value read (definitionsIn bytes sizes names) _ v))) }

@@ -186,8 +186,7 @@ pub fn read_define<'a, 'b>(
         DefinitionRead::Fault(cause) => DefineRead::Fault(cause),
         DefinitionRead::Good(k, n) => {
             let all = &name[..];
-            let written = &value[..];
-            match place_for(bytes, sizes, names, &all[..k], &written[..n]) {
+            match place_for(bytes, sizes, names, &all[..k]) {
                 DefinePlace::Fault(cause) => DefineRead::Fault(cause),
                 DefinePlace::At(place, total) => DefineRead::At(place, total, k, n),
             }

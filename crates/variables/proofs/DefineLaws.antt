@@ -1,4 +1,4 @@
--- What a definition's name and text must be, and what becomes of the variables. Assumes nothing.
+-- What a definition's name and text must be. Assumes nothing.
 use mathlib.Core.Path.{_≡_}
 use mathlib.Core.Bool.{true, false}
 use mathlib.Core.List.{List}
@@ -9,12 +9,9 @@ use borrow.Author.Tests.{le-leb, lt-leb}
 use lib.ListN.{length}
 use Rattle.text.proofs.Laws.{clash}
 use Rattle.fault.specs.Fault.{fault, value}
-use Rattle.fault.specs.declared.Cause.{Cause}
 use Rattle.fault.specs.declared.Cause.the-variants.{NameLength, TextLength, DefineName}
-use Rattle.variables.specs.Scope.{Definition, isName, builtIn}
-use Rattle.variables.specs.Define.{defineName, defineText, defineIn}
-use Rattle.variables.specs.Contract.{definitionsIn, Stores, Goes}
-use Rattle.variables.specs.declared.DefinePlace.the-variants.{At as PlaceAt, Fault as NoPlace}
+use Rattle.variables.specs.Scope.{isName, builtIn}
+use Rattle.variables.specs.Define.{defineName, defineText}
 
 module _ (n : List ℕ) where
   pub long-name : 64 < length n → fault NameLength ≡ defineName n
@@ -50,20 +47,3 @@ name-short n e = elim (decLe (length n) 64) [ yes h ↦ h | no h ↦ let f = lon
 
 pub text-short : (t : List ℕ) → value t ≡ defineText t → length t ≤ 256
 text-short t e = elim (decLe (length t) 256) [ yes h ↦ h | no h ↦ let f = long-text t (omega arith) in clash cc ]
-
-module _ {bytes sizes : List ℕ} {count : ℕ} {d : Definition} where
-  -- a name or a text that is refused
-  pub refused-name : {c : Cause} → fault c ≡ defineName (d .name) → Goes bytes sizes count d (NoPlace c)
-  refused-name e = record { goes = rw (← e) }
-
-  module _ (n : value (d .name) ≡ defineName (d .name)) where
-    pub refused-text : {c : Cause} → fault c ≡ defineText (d .text) → Goes bytes sizes count d (NoPlace c)
-    refused-text e = record { goes = rw (← n, ← e) }
-
-    -- both are good: by the number of names
-    module _ (t : value (d .text) ≡ defineText (d .text)) where
-      pub goes-at : {i k : ℕ} → i < 64 → ((newBytes newSizes : List ℕ) → Stores bytes sizes i d newBytes newSizes → defineIn d (definitionsIn bytes sizes count) ≡ value (definitionsIn newBytes newSizes k)) → Goes bytes sizes count d (PlaceAt i k)
-      goes-at h e = record { goes = (h, name-short (d .name) n, text-short (d .text) t, λ x y w. rw (← n, ← t) (e x y w)) }
-
-      pub no-place : {c : Cause} → defineIn d (definitionsIn bytes sizes count) ≡ fault c → Goes bytes sizes count d (NoPlace c)
-      no-place e = record { goes = rw (← n, ← t) e }

@@ -17,7 +17,7 @@ use Rattle.text.specs.declared.quote.Quoting.{Quoting}
 use Rattle.text.specs.declared.quote.Quoting.the-variants.{Outside}
 use Rattle.text.specs.declared.slice.Found.{Found}
 use Rattle.text.specs.declared.slice.Found.the-variants.{At, Nothing}
-use Rattle.fault.specs.Fault.{Reading, fault, value, andThen}
+use Rattle.fault.specs.Fault.{Reading, fault, value}
 use Rattle.fault.specs.declared.Cause.{Cause}
 use Rattle.fault.specs.declared.Cause.the-variants.{FieldLength}
 use Rattle.variables.specs.declared.Variables.{Variables}
@@ -30,7 +30,7 @@ use Rattle.variables.specs.declared.field.NamePlace.the-variants.{Name, 
 use Rattle.variables.specs.declared.field.Referred.{Referred}
 use Rattle.variables.specs.declared.field.Referred.the-variants.{Known, Bad}
 use Rattle.variables.specs.Scope.{Definition, definition, Scope, nameText}
-use Rattle.variables.specs.Define.{nameLimit, textLimit, namesLimit, defineName, defineText, defineIn}
+use Rattle.variables.specs.Define.{nameLimit, textLimit, namesLimit, defineIn}
 use Rattle.variables.specs.Substitute.{Substitution, substitution, stays, refers, reference, substitute, substituted, fieldText}
 use Rattle.variables.specs.declared.DefinePlace.the-variants.{At as PlaceAt, Fault as NoPlace}
 use Rattle.variables.specs.declared.definition.Checked.the-variants.{Good, Fault as NotGood}
@@ -84,17 +84,13 @@ abbrev pub checkedReading : Checked → List ℕ → Reading Cause (List ℕ)
 checkedReading Good s = value s
 checkedReading (NotGood c) s = fault c
 
--- all checks of a definition, in their order
-abbrev pub definedIn : Definition → List Definition → Reading Cause (List Definition)
-definedIn d ds = andThen (defineName (d .name)) (λ n. andThen (defineText (d .text)) (λ t. defineIn (definition n t) ds))
+-- why a name has no place, whatever its text, or: whoever stores the name with a text at the place has the variables with them
+abbrev pub GoesIn : List ℕ → List ℕ → ℕ → List ℕ → DefinePlace → Type 0
+GoesIn bytes sizes count name (NoPlace c) = (text : List ℕ) → defineIn (definition name text) (definitionsIn bytes sizes count) ≡ fault c
+GoesIn bytes sizes count name (PlaceAt i n) = (i < namesLimit) × ((text newBytes newSizes : List ℕ) → Stores bytes sizes i (definition name text) newBytes newSizes → defineIn (definition name text) (definitionsIn bytes sizes count) ≡ value (definitionsIn newBytes newSizes n))
 
--- why a definition is refused, or: whoever stores it at the place has the variables with it
-abbrev pub GoesIn : List ℕ → List ℕ → ℕ → Definition → DefinePlace → Type 0
-GoesIn bytes sizes count d (NoPlace c) = definedIn d (definitionsIn bytes sizes count) ≡ fault c
-GoesIn bytes sizes count d (PlaceAt i n) = (i < namesLimit) × (length (d .name) ≤ nameLimit) × (length (d .text) ≤ textLimit) × ((newBytes newSizes : List ℕ) → Stores bytes sizes i d newBytes newSizes → definedIn d (definitionsIn bytes sizes count) ≡ value (definitionsIn newBytes newSizes n))
-
-pub record Goes (bytes sizes : List ℕ) (count : ℕ) (d : Definition) (r : DefinePlace) : Type 0 where
-  pub goes : GoesIn bytes sizes count d r
+pub record Goes (bytes sizes : List ℕ) (count : ℕ) (name : List ℕ) (r : DefinePlace) : Type 0 where
+  pub goes : GoesIn bytes sizes count name r
 
 -- ---- a field's text
 -- a byte that stands for itself outside quotes: no quote and no `$`
