@@ -5,7 +5,7 @@ use mathlib.Core.List.{List, [], _∷_, _++_}
 use mathlib.Core.Option.{Option, none, some}
 use Prim.Native.Nat.{ℕ, zero, suc, _+_, _*_, _-_, _≤_, _<_, min}
 use lib.Dec.{leb}
-use lib.ListN.{length, take, drop, getD}
+use lib.ListN.{length, set, take, drop, getD}
 use Rattle.text.specs.Buffer.{laid}
 use Rattle.text.specs.Limits.{fieldLimit}
 use Rattle.text.specs.Lists.{all}
@@ -72,6 +72,17 @@ scopeIn caller host bytes sizes count = record { caller = caller; host = host; d
 unfoldable pub definedAt : ℕ → List ℕ → List Definition → Found
 definedAt i n [] = Nothing
 definedAt i n (d ∷ ds) = cond (same (d .name) n) (At i) (definedAt (i + 1) n ds)
+
+-- the bytes with a name and a text at a place, and likewise their sizes; as they were where there is no such place
+unfoldable pub bytesWith : List ℕ → ℕ → List ℕ → List ℕ → List ℕ
+bytesWith bytes at name text = cond (leb namesLimit at) bytes (laid (laid bytes (at * placeBytes) name) (at * placeBytes + nameLimit) text)
+
+unfoldable pub sizesWith : List ℕ → ℕ → ℕ → ℕ → List ℕ
+sizesWith sizes at name text = cond (leb namesLimit at) sizes (set (set sizes (at * 2) name) (at * 2 + 1) text)
+
+-- the variables with a name and its text at a place, and so many names
+abbrev pub storedAt : Variables → ℕ → ℕ → List ℕ → List ℕ → Variables
+storedAt v at names name text = record { bytes = bytesWith (v .bytes) at name text; sizes = sizesWith (v .sizes) at (length name) (length text); count = names }
 
 -- one place was written, and the others stay
 pub record Stores (bytes sizes : List ℕ) (at : ℕ) (d : Definition) (newBytes newSizes : List ℕ) : Type 0 where

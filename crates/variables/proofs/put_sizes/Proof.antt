@@ -1,10 +1,10 @@
-use native.Mathlib.Omega.{arith}
 use borrow.Author.Needs.{needs}
+use Rattle.variables.proofs.StoreLaws.{sizes-stay, sizes-written}
 use Rattle.variables.proofs.put_sizes.Statement.{statement}
 use Rattle.variables.proofs.put_sizes.Tie as tie
 
 returns : tie.Need-returns
-returns c = λ h. absurd (omega (arith, c .if1 .taken))
+returns c = let a = c .before .args in sizes-stay (a .sizes .now) (a .at) (a .name) (a .text) (c .if1 .taken)
 
 mul-sizes : tie.Need-mul-sizes
 mul-sizes c = search needs
@@ -28,7 +28,7 @@ element-write-sizes-2 : tie.Need-element-write-sizes-2
 element-write-sizes-2 c = search needs
 
 returns-2 : tie.Need-returns-2
-returns-2 c = search needs
+returns-2 c = let a = c .before .args in sizes-written (a .sizes .now) (a .at) (a .name) (a .text) (c .if1 .left)
 
 pub put-sizes-spec : {M : Type 1} → statement M
 put-sizes-spec =

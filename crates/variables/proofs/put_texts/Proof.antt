@@ -1,14 +1,14 @@
 use mathlib.Core.Path.{ap, _∙_}
 use mathlib.Core.List.{List}
 use Prim.Native.Nat.{ℕ, _+_, _*_}
-use native.Mathlib.Omega.{arith}
 use borrow.Author.Needs.{needs}
 use Rattle.text.specs.Buffer.{laid}
+use Rattle.variables.proofs.StoreLaws.{bytes-stay, bytes-written}
 use Rattle.variables.proofs.put_texts.Statement.{statement}
 use Rattle.variables.proofs.put_texts.Tie as tie
 
 returns : tie.Need-returns
-returns c = λ h. absurd (omega (arith, c .if1 .taken))
+returns c = let a = c .before .before .before .args in bytes-stay (a .bytes .now) (a .at) (a .name .now) (a .text .now) (c .if1 .taken)
 
 mul-from : tie.Need-mul-from
 mul-from c = search needs
@@ -23,7 +23,7 @@ put-bytes-requires-2 : tie.Need-put-bytes-requires-2
 put-bytes-requires-2 c κs = search needs
 
 returns-2 : tie.Need-returns-2
-returns-2 c = λ h. let a = c .before .before .before .before .before .before .before .args in c .put-bytes2 .ensures ∙ ap (λ (x : List ℕ). laid x (a .at * 320 + 64) (a .text .now)) (c .before .before .put-bytes .ensures)
+returns-2 c = let a = c .before .before .before .before .before .before .before .args in c .put-bytes2 .ensures ∙ ap (λ (x : List ℕ). laid x (a .at * 320 + 64) (a .text .now)) (c .before .before .put-bytes .ensures) ∙ bytes-written (a .bytes .now) (a .at) (a .name .now) (a .text .now) (c .before .before .before .before .if1 .left)
 
 pub put-texts-spec : {M : Type 1} → statement M
 put-texts-spec =

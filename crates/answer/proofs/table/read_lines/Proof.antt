@@ -5,6 +5,7 @@ use borrow.Author.Needs.{needs}
 use lib.ListN.{length, length-replicate}
 use lib.Seq.{length-take-le}
 use Rattle.question.specs.Question.{Question}
+use Rattle.variables.proofs.StoreLaws.{stored-there}
 use Rattle.line.proofs.ScanLaws.{scans-length, scans-fault, scans-good}
 use Rattle.answer.specs.Meaning.{settled}
 use Rattle.answer.specs.Contract.{AskedWith}
@@ -158,7 +159,9 @@ loop-again-3 : tie.Need-loop-again-3 Inv-loop μ-loop
 loop-again-3 c =
     let w = (rw (c .before .before .before .before .before .before .before .before .before .before .before .before .before .before .before .before .before .before .before .before .before .before .before .before .before .before .before .before .before .before .before .before .before .end .given .1) at (c .before .before .before .before .before .before .before .before .before .before .before .before .before .before .before .before .before .before .before .before .before .before .before .before .before .before .before .before .before .before .before .before .before .before .before .control-end .ensures)) in
     let l = c .before .before .before .before .before .before .before .before .before .before .before .before .before .before .before .before .before .before .before .before .before .before .before .before .before .before .before .before .before .before .before .before .before .before .before .before .before .loop in
-    (w .high, omega (arith, w .few, l .inv .1), scans-length (c .before .before .before .before .before .before .before .before .before .before .before .before .before .before .before .before .before .before .before .before .before .before .before .before .before .before .before .scan-line .ensures) ∙ l .inv .2, ends-kept (c .before .before .before .before .before .before .before .before .before .before .before .before .before .before .before .before .before .before .before .before .before .before .before .before .before .before .before .scan-line .ensures) ∙ l .inv .3, λ q a. let f = l .inv .4 q a in let g = (scans-good (c .before .before .before .before .before .before .before .before .before .before .before .before .before .before .before .before .before .before .before .before .before .before .before .before .before .before .before .scan-line .ensures) (c .before .before .before .before .before .before .before .before .before .before .before .before .before .before .before .before .before .before .before .before .before .before .before .before .n .given .1) (omega (arith, c .before .before .before .before .before .before .before .before .before .before .before .before .before .before .before .before .before .before .before .before .before .before .before .before .before .before .before .before .before .before .before .before .before .before .before .before .before .loop .inv .2)) (c .before .before .before .before .before .before .before .before .before .before .before .before .before .before .before .before .before .before .before .before .before .before .before .before .before .before .before .before .before .before .before .before .before .before .before .before .before .loop .inv .3) .0) in arm-defined a f w g _ (c .before .before .before .before .before .before .before .before .before .before .before .before .before .before .before .before .before .control-line .ensures) (c .before .before .before .before .before .before .before .before .before .before .before .before .before .before .before .from .given .1) (c .before .before .before .before .before .before .read-define .ensures) (c .before .before .before .before .place .given .1) (c .define .ensures))
+    let lb : length (c .define .result .bytes) ≡ 20480 = search needs in
+    let ls : length (c .define .result .sizes) ≡ 128 = search needs in
+    (w .high, omega (arith, w .few, l .inv .1), scans-length (c .before .before .before .before .before .before .before .before .before .before .before .before .before .before .before .before .before .before .before .before .before .before .before .before .before .before .before .scan-line .ensures) ∙ l .inv .2, ends-kept (c .before .before .before .before .before .before .before .before .before .before .before .before .before .before .before .before .before .before .before .before .before .before .before .before .before .before .before .scan-line .ensures) ∙ l .inv .3, λ q a. let f = l .inv .4 q a in let g = (scans-good (c .before .before .before .before .before .before .before .before .before .before .before .before .before .before .before .before .before .before .before .before .before .before .before .before .before .before .before .scan-line .ensures) (c .before .before .before .before .before .before .before .before .before .before .before .before .before .before .before .before .before .before .before .before .before .before .before .before .n .given .1) (omega (arith, c .before .before .before .before .before .before .before .before .before .before .before .before .before .before .before .before .before .before .before .before .before .before .before .before .before .before .before .before .before .before .before .before .before .before .before .before .before .loop .inv .2)) (c .before .before .before .before .before .before .before .before .before .before .before .before .before .before .before .before .before .before .before .before .before .before .before .before .before .before .before .before .before .before .before .before .before .before .before .before .before .loop .inv .3) .0) in arm-defined a f w g _ (c .before .before .before .before .before .before .before .before .before .before .before .before .before .before .before .before .before .control-line .ensures) (c .before .before .before .before .before .before .before .before .before .before .before .before .before .before .before .from .given .1) (c .before .before .before .before .before .before .read-define .ensures) (c .before .before .before .before .place .given .1) (stored-there (l .variables) _ _ _ _ lb ls (c .define .ensures)))
 
 enum-known-from-2 : tie.Need-enum-known-from-2 Inv-loop μ-loop
 enum-known-from-2 c = search needs
