@@ -27,8 +27,8 @@ ghost use lib.ListN.{length, drop};
 ghost use Rattle.text.specs.Bytes.{byte};
 ghost use Rattle.text.specs.Lists.{has};
 ghost use Rattle.fault.specs.Fault.{value, readAll, require};
-ghost use Rattle.pattern.specs.Contract.{HasNumber, expansionsIn};
-ghost use Rattle.pattern.specs.Tree.{patternOf, expanded};
+ghost use Rattle.pattern.specs.Contract.{HasNumber, expansionsIn, Few, AlternativeAt};
+ghost use Rattle.pattern.specs.Tree.{patternOf, expanded, listOf};
 ghost use Rattle.pattern.specs.Whole.{expansionsOf};
 ghost use Rattle.question.specs.Contract.{stringsIn};
 ghost use Rattle.condition.specs.Condition.{judgeOf, kindFor, causeFor, alternativeRead, alternativesOf, conditionBehind, conditionOf};
@@ -153,7 +153,55 @@ fn add_braced(
     Added::Kept(r)
 }
 
-// All alternatives of a pattern without a fault, as they stand. So none is malformed; where one is flat, no buffer is needed.
+// All expansions of the alternative found at `at`; where it is flat, no buffer is needed.
+fn add_found(
+    syntax: Syntax,
+    minute: WeekMinute,
+    asks: Asks,
+    negated: bool,
+    judging: bool,
+    p: &[u8],
+    at: usize,
+    found: Alternative,
+    user: &[u8],
+    groups: &[u8],
+    host: &[u8],
+    kept: Rightmost,
+) -> Added
+    requires { ⌜ (length (now p) ≤ 1024) × (at ≤ length (now p)) × Few (listOf syntax false (drop at (now p))) × AlternativeAt (now p) at found (patternOf syntax false (drop at (now p))) ⌝ }
+    ensures { λ r. ⌜ r ≡ addedBy kept (readAll (alternativeRead (judgeBy judging (now (user .entry)) (now (groups .entry)) (now (host .entry)) (minute .0)) negated (sortIn asks)) (expansionsIn (patternOf syntax false (drop at (now (p .entry)))))) ⌝ }
+{
+    match found {
+        Alternative::Flat(end) => add_one(
+            minute,
+            asks,
+            negated,
+            judging,
+            &p[at..end],
+            user,
+            groups,
+            host,
+            kept,
+        ),
+        Alternative::Braced(_, number) => add_braced(
+            syntax,
+            minute,
+            asks,
+            negated,
+            judging,
+            p,
+            at,
+            number,
+            user,
+            groups,
+            host,
+            kept,
+        ),
+        Alternative::Malformed => Added::Fault(Cause::Pattern),
+    }
+}
+
+// All alternatives of a pattern without a fault, as they stand; so none is malformed.
 fn add_all(
     syntax: Syntax,
     minute: WeekMinute,
@@ -172,58 +220,31 @@ fn add_all(
     let mut r = kept;
     let mut i = 0;
     loop {
-        match alternative_at(syntax, p, i) {
-            Alternative::Flat(end) => match add_one(
-                minute,
-                asks,
-                negated,
-                judging,
-                &p[i..end],
-                user,
-                groups,
-                host,
-                r,
-            ) {
-                Added::Kept(next) => {
-                    if p.len() <= end {
-                        return Added::Kept(next);
-                    }
-                    r = next;
-                    i = end + 1;
-                    continue;
+        let found = alternative_at(syntax, p, i);
+        match add_found(
+            syntax,
+            minute,
+            asks,
+            negated,
+            judging,
+            p,
+            i,
+            found,
+            user,
+            groups,
+            host,
+            r,
+        ) {
+            Added::Fault(cause) => {
+                return Added::Fault(cause);
+            }
+            Added::Kept(next) => {
+                let end = found.end();
+                if p.len() <= end {
+                    return Added::Kept(next);
                 }
-                Added::Fault(cause) => {
-                    return Added::Fault(cause);
-                }
-            },
-            Alternative::Braced(end, number) => match add_braced(
-                syntax,
-                minute,
-                asks,
-                negated,
-                judging,
-                p,
-                i,
-                number,
-                user,
-                groups,
-                host,
-                r,
-            ) {
-                Added::Kept(next) => {
-                    if p.len() <= end {
-                        return Added::Kept(next);
-                    }
-                    r = next;
-                    i = end + 1;
-                    continue;
-                }
-                Added::Fault(cause) => {
-                    return Added::Fault(cause);
-                }
-            },
-            Alternative::Malformed => {
-                return Added::Fault(Cause::Pattern);
+                r = next;
+                i = end + 1;
             }
         }
     }

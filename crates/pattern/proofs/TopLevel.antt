@@ -16,10 +16,11 @@ use Rattle.fault.specs.Fault.{value}
 use Rattle.pattern.specs.declared.Syntax.{Syntax}
 use Rattle.pattern.specs.declared.run.RunRead.the-variants.{Ends, Malformed as RunMalformed}
 use Rattle.pattern.specs.declared.braces.ListRead.the-variants.{Done}
-use Rattle.pattern.specs.declared.alternatives.Alternative.the-variants.{Flat, Braced}
+use Rattle.pattern.specs.declared.alternatives.Alternative.{Alternative}
+use Rattle.pattern.specs.declared.alternatives.Alternative.the-variants.{Flat, Braced, Malformed as AlternativeMalformed}
 use Rattle.pattern.specs.Tree.{Tree, empty, or, number, expansions, TreeRead, parsed, malformed, bind, afterOne, patternOf, listOf, expanded}
 use Rattle.pattern.specs.Whole.{expansionsOf}
-use Rattle.pattern.specs.Contract.{RunAt, Tells, chosen, HasNumber, expansionsIn, EndsBefore, AlternativeAt}
+use Rattle.pattern.specs.Contract.{RunAt, Tells, chosen, HasNumber, expansionsIn, EndsBefore, endTold, Few, AlternativeAt}
 use Rattle.pattern.proofs.TreeLaws.{list-first}
 use Rattle.pattern.proofs.Expanding.{told, wrapped, pieces-are, pieces-none}
 use Rattle.pattern.proofs.Expansions.{counts, nth-is}
@@ -65,10 +66,6 @@ never-full-at syntax p at n k {old} {new} {r} h g w l e =
     short malformed q h = absurd h
 
 -- ---- a list without a fault: the alternative at its beginning, and those behind the comma
-abbrev pub Few : TreeRead → Type 0
-Few (parsed t r) = number t ≤ 64
-Few malformed = ⊥
-
 -- the alternative from `at` on has the expansions es and ends before e
 pub record First (syntax : Syntax) (p : List ℕ) (at e : ℕ) (es : List (List ℕ)) : Type 0 where
   pub low : at ≤ e
@@ -111,15 +108,13 @@ module _ (syntax : Syntax) (p : List ℕ) (at : ℕ) (few : Few (listOf syntax f
     firsts : Firsts
     firsts = elim (decLe (length p) e) [ yes h ↦ ends h | no h ↦ goes-on (omega arith) ]
 
-  pub first-flat : (e : ℕ) → AlternativeAt p at (Flat e) (patternOf syntax false (drop at p)) → First syntax p at e (take (e - at) (drop at p) ∷ [])
+  pub first-told : (a : Alternative) → AlternativeAt p at a (patternOf syntax false (drop at p)) → First syntax p at (endTold a) (expansionsIn (patternOf syntax false (drop at p)))
   unfolding expansionsIn
-  first-flat e w = let z : expansions (w .0 .tree) ≡ take (e - at) (drop at p) ∷ [] = ap expansionsIn (sym (w .0 .is)) ∙ w .1 in rw (← z) (firsts e (w .0) .1)
+  first-told (Flat e) w = rw (w .0 .is) (firsts e (w .0) .1)
+  first-told (Braced e n) w = rw (w .0 .is) (firsts e (w .0) .1)
+  first-told AlternativeMalformed w = absurd (no-alternative w)
 
   module _ (e n : ℕ) (w : AlternativeAt p at (Braced e n) (patternOf syntax false (drop at p))) where
-    pub first-braced : First syntax p at e (expansionsIn (patternOf syntax false (drop at p)))
-    unfolding expansionsIn
-    first-braced = rw (w .0 .is) (firsts e (w .0) .1)
-
     pub braced-few : n ≤ 64
     braced-few = omega (arith, firsts e (w .0) .0, w .1)
 

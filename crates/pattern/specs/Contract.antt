@@ -187,6 +187,17 @@ pub record EndsBefore (p : List ℕ) (at e : ℕ) (o : TreeRead) : Type 0 where
   pub low : at ≤ e
   pub high : e ≤ length p
 
+-- where an alternative ends that an answer tells
+abbrev pub endTold : Alternative → ℕ
+endTold (Flat e) = e
+endTold (Braced e n) = e
+endTold AlternativeMalformed = 0
+
+-- a reading whose tree has at most 64 expansions
+abbrev pub Few : TreeRead → Type 0
+Few (parsed t r) = number t ≤ 64
+Few malformed = ⊥
+
 -- an answer tells the reading o of the alternative that begins at `at`: its only expansion is what is written, or how many it has, up to 65
 abbrev pub AlternativeAt : List ℕ → ℕ → Alternative → TreeRead → Type 0
 AlternativeAt p at (Flat e) o = EndsBefore p at e o × (expansionsIn o ≡ take (e - at) (drop at p) ∷ [])

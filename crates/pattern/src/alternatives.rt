@@ -7,13 +7,14 @@ use super::run::RunRead;
 use super::run::run_at;
 use super::writer::put_pattern;
 use text::buffer::Filled;
+ghost use mathlib.Core.Path.{_≡_};
 ghost use mathlib.Core.Bool.{false};
 ghost use mathlib.Core.List.{[]};
 ghost use Prim.Native.Nat.{_≤_, _<_};
 ghost use lib.ListN.{length, drop, getD};
 ghost use Rattle.text.specs.Contract.{Wrote};
 ghost use Rattle.pattern.specs.Tree.{patternOf};
-ghost use Rattle.pattern.specs.Contract.{HasNumber, expansionsIn, AlternativeAt};
+ghost use Rattle.pattern.specs.Contract.{HasNumber, expansionsIn, endTold, AlternativeAt};
 
 // What stands where an alternative begins.
 pub enum Alternative {
@@ -22,6 +23,19 @@ pub enum Alternative {
     // With braces: where it ends, and how many expansions it has, up to one past the limit.
     Braced(usize, usize),
     Malformed,
+}
+
+impl Alternative {
+    // Where it ends.
+    pub fn end(self) -> usize
+        ensures { λ r. ⌜ r ≡ endTold self ⌝ }
+    {
+        match self {
+            Alternative::Flat(end) => end,
+            Alternative::Braced(end, _) => end,
+            Alternative::Malformed => 0,
+        }
+    }
 }
 
 // The alternative that begins at `at`, a place of the pattern or its end.
