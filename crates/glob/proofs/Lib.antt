@@ -1,3 +1,5 @@
 pub mod SetLaws
 pub mod MatchLaws
+pub mod BudgetLaws
+pub mod SearchLaws
 pub mod AlternativeLaws

@@ -1,18 +1,27 @@
 -- What only contracts and proofs cite: the answers of the functions hold places, those of the definitions lists.
-use Prim.Native.Nat.{ℕ, _+_, _-_, _≤_, _<_}
+use Prim.Native.Nat.{ℕ, suc, _+_, _*_, _-_, _≤_, _<_}
 use mathlib.Core.Path.{_≡_}
-use mathlib.Core.Bool.{false}
+use mathlib.Core.Bool.{Bool, true, false, cond}
 use mathlib.Core.List.{List, [], _∷_}
 use mathlib.Core.Option.{Option, none, some}
+use lib.Dec.{eqb}
 use lib.ListN.{length, drop, take, getD}
 use Rattle.text.specs.Class.{range}
-use Rattle.text.specs.Lists.{has}
-use Rattle.glob.specs.Set.{ranges}
+use Rattle.text.specs.Lists.{has, any}
+use Rattle.glob.specs.Set.{ranges, inSet}
+use Rattle.glob.specs.Match.{Token, anyRun, anyByte, noByte, thisByte, byteOf, tokens, tails, matches}
 use Rattle.glob.specs.Alternative.{Alternative, partsOf, alternativeOf}
 use Rattle.glob.specs.declared.alternative.ByteContext.{ByteContext}
 use Rattle.glob.specs.declared.alternative.ByteContext.the-variants.{Free}
 use Rattle.glob.specs.declared.alternative.Parted.{Parted}
 use Rattle.glob.specs.declared.alternative.Parted.the-variants.{Malformed, Name, NameAtHost}
+use Rattle.glob.specs.declared.matcher.Budget.{Budget}
+use Rattle.glob.specs.declared.matcher.Spent.{Spent}
+use Rattle.glob.specs.declared.matcher.Spent.the-variants.{Left, Nothing}
+use Rattle.glob.specs.declared.matcher.Tested.{Tested}
+use Rattle.glob.specs.declared.matcher.Tested.the-variants.{Past, Off, Exhausted}
+use Rattle.glob.specs.declared.matcher.Tried.{Tried}
+use Rattle.glob.specs.declared.matcher.Tried.the-variants.{Whole, Star, Off as Failed, Short, Exhausted as Spent-out}
 
 -- r is where the range that begins at `at` ends
 pub record RangeAt (s : List ℕ) (at r : ℕ) : Type 0 where
@@ -61,3 +70,120 @@ PartedWithin a (NameAtHost i) = i < length a
 pub record TellsAlternative (a : List ℕ) (r : Parted) : Type 0 where
   pub within : PartedWithin a r
   pub same : partedIn a r ≡ alternativeOf a
+
+-- ---- the search by the last star, and its budget (02 (iii))
+-- the tests that a budget is good for, where a row has so many
+unfoldable pub worth : ℕ → Budget → ℕ
+worth row b = b .rows * row - b .used
+
+-- not more than a row was used of the first one
+abbrev pub Usable : ℕ → Budget → Type 0
+Usable row b = b .used ≤ row
+
+-- one test less
+pub record OneLess (row : ℕ) (old new : Budget) : Type 0 where
+  pub usable : Usable row new
+  pub spent : worth row old ≡ worth row new + 1
+
+-- one test less, or nothing was left
+abbrev pub Spends : ℕ → Budget → Spent → Type 0
+Spends row b (Left l) = OneLess row b l
+Spends row b Nothing = worth row b ≡ 0
+
+-- the budget is good for a row of tests at each of so many bytes
+pub record Covers (row bytes : ℕ) (b : Budget) : Type 0 where
+  pub usable : Usable row b
+  pub enough : bytes * row ≤ worth row b
+
+-- whether a token is a star
+abbrev pub isRun : Token → Bool
+isRun anyRun = true
+isRun anyByte = false
+isRun noByte = false
+isRun (thisByte c) = false
+isRun (byteOf t) = false
+
+-- whether a token that is no star takes a byte
+abbrev pub takes : Token → ℕ → Bool
+takes anyRun b = false
+takes anyByte b = true
+takes noByte b = false
+takes (thisByte c) b = eqb c b
+takes (byteOf t) b = inSet t b
+
+-- one test, where there is a byte, and those behind it where the byte is taken
+abbrev pub testsBy : Token → (List ℕ → ℕ) → List ℕ → ℕ
+testsBy t k [] = 0
+testsBy t k (b ∷ s) = suc (cond (takes t b) (k s) 0)
+
+-- the tests of bytes that trying the tokens at a name makes, up to the next star
+unfoldable pub testsOf : List Token → List ℕ → ℕ
+testsOf [] s = 0
+testsOf (t ∷ p) s = cond (isRun t) 0 (testsBy t (testsOf p) s)
+
+-- the token of p at i takes the byte b, and the next one begins at k; one test was used
+pub record TakesTo (p : List ℕ) (i b k : ℕ) (old new : Budget) : Type 0 where
+  pub token : Token
+  pub ahead : i < k
+  pub high : k ≤ length p
+  pub here : tokens (drop i p) ≡ token ∷ tokens (drop k p)
+  pub no-star : isRun token ≡ false
+  pub taken : takes token b ≡ true
+  pub less : OneLess (length p) old new
+
+-- the token of p at i does not take the byte; one test was used
+pub record TakesNot (p : List ℕ) (i b : ℕ) (old new : Budget) : Type 0 where
+  pub token : Token
+  pub rest : List Token
+  pub here : tokens (drop i p) ≡ token ∷ rest
+  pub no-star : isRun token ≡ false
+  pub left : takes token b ≡ false
+  pub less : OneLess (length p) old new
+
+abbrev pub Tests : List ℕ → ℕ → ℕ → Budget → Tested → Type 0
+Tests p i b old (Past k l) = TakesTo p i b k old l
+Tests p i b old (Off l) = TakesNot p i b old l
+Tests p i b old Exhausted = worth (length p) old ≡ 0
+
+-- what a star matches that p follows: some run of bytes, and then what p matches
+unfoldable pub matchesBehind : List ℕ → List ℕ → Bool
+unfolding any tails matches
+matchesBehind p s = any (matches p) (tails s)
+
+-- the budget has lost what trying p from i on at the name's byte j uses
+abbrev pub Uses : List ℕ → ℕ → List ℕ → ℕ → Budget → Budget → Type 0
+Uses p i s j old new = worth (length p) old ≡ worth (length p) new + testsOf (tokens (drop i p)) (drop j s)
+
+-- p from i on matches s from j on up to a star: k is behind it, and m behind the bytes taken, each by one test
+pub record Stars (p : List ℕ) (i : ℕ) (s : List ℕ) (j k m : ℕ) (old new : Budget) : Type 0 where
+  pub ahead : i < k
+  pub high : k ≤ length p
+  pub low : j ≤ m
+  pub most : m ≤ length s
+  pub usable : Usable (length p) new
+  pub uses : Uses p i s j old new
+  pub spent : worth (length p) new + m ≡ worth (length p) old + j
+  pub same : matchesBehind (drop k p) (drop m s) ≡ matches (drop i p) (drop j s)
+  -- wherever else p from i on matches, so does what follows the star, behind as many bytes
+  pub later : (t : List ℕ) → matches (drop i p) t ≡ true → matchesBehind (drop k p) (drop (m - j) t) ≡ true
+
+-- it does not match there, before the name's end, and not more tests were used than the pattern has bytes
+pub record Fails (p : List ℕ) (i : ℕ) (s : List ℕ) (j : ℕ) (old new : Budget) : Type 0 where
+  pub more : j < length s
+  pub usable : Usable (length p) new
+  pub uses : Uses p i s j old new
+  pub spent : worth (length p) old ≤ worth (length p) new + length p
+  pub same : false ≡ matches (drop i p) (drop j s)
+
+-- it does not match there, nor at any later byte
+pub record FailsOn (p : List ℕ) (i : ℕ) (s : List ℕ) (j : ℕ) : Type 0 where
+  pub here : false ≡ matches (drop i p) (drop j s)
+  pub later : false ≡ matchesBehind (drop i p) (drop j s)
+
+-- what a try comes to; the budget is never spent
+abbrev pub Tries : List ℕ → ℕ → List ℕ → ℕ → Budget → Tried → Type 0
+Tries p i s j b Whole = true ≡ matches (drop i p) (drop j s)
+Tries p i s j b (Star k m l) = Stars p i s j k m b l
+Tries p i s j b (Failed l) = Fails p i s j b l
+Tries p i s j b Short = FailsOn p i s j
+Tries p i s j b Spent-out = ⊥

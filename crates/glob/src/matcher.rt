@@ -1,92 +1,194 @@
-// What a brace-free pattern matches.
+// What a brace-free pattern matches. The search goes back to the last star only, and each test of a byte of the name
+// uses one of a budget (02 (iii)).
 use super::set;
 ghost use mathlib.Core.Path.{_≡_};
-ghost use mathlib.Core.Bool.{true};
-ghost use Prim.Native.Nat.{_≤_, _<_};
+ghost use Prim.Native.Nat.{_-_, _≤_, _<_};
 ghost use lib.ListN.{length, drop, getD};
 ghost use Rattle.glob.specs.Match.{matches};
+ghost use Rattle.glob.specs.Contract.{Usable, Spends, Covers, Tests, Tries, matchesBehind};
 
-// Whether a star stands at a place.
-fn is_star(p: &[u8], i: usize) -> bool
-    ensures { λ r. ⌜ (r ≡ true → (i < length (now (p .entry))) × (getD (now (p .entry)) i 0 ≡ 42)) ⌝ }
-{
-    if i < p.len() {
-        return p[i] == b'*';
-    }
-    false
+// The tests that are left: so many rows, each as long as the pattern, less those used of the first. The product of two
+// lengths need not fit a number.
+pub struct Budget {
+    pub rows: usize,
+    pub used: usize,
 }
 
-// Whether the pattern from a place on matches all of the name from another on. Only a star makes it call itself, and
-// stars side by side are one, so that it is never deeper than the name is long.
-fn matches_at(p: &[u8], from: usize, s: &[u8], at: usize) -> bool
-    requires { ⌜ (from ≤ length (now p)) × (at ≤ length (now s)) ⌝ }
-    ensures { λ r. ⌜ r ≡ matches (drop from (now (p .entry))) (drop at (now (s .entry))) ⌝ }
+// What one test more leaves.
+pub enum Spent {
+    Left(Budget),
+    Nothing,
+}
+
+// One test less, where a row has so many.
+fn spend(budget: Budget, row: usize) -> Spent
+    requires { ⌜ (0 < row) × Usable row budget ⌝ }
+    ensures { λ r. ⌜ Spends row budget r ⌝ }
 {
-    let mut i = from;
-    let mut j = at;
-    loop {
-        if p.len() <= i {
-            return s.len() <= j;
-        }
-        let c = p[i];
-        let k = i + 1;
-        if c == b'*' {
-            if is_star(p, k) {
-                i = k;
-                continue;
+    if budget.rows == 0 {
+        return Spent::Nothing;
+    }
+    if budget.used < row {
+        return Spent::Left(Budget {
+            rows: budget.rows,
+            used: budget.used + 1,
+        });
+    }
+    if budget.rows == 1 {
+        return Spent::Nothing;
+    }
+    Spent::Left(Budget {
+        rows: budget.rows - 1,
+        used: 1,
+    })
+}
+
+// What a test of a byte by a token comes to.
+pub enum Tested {
+    // The token takes the byte: where the next one begins, and what is left of the budget.
+    Past(usize, Budget),
+    // It does not take it.
+    Off(Budget),
+    // The budget was spent before.
+    Exhausted,
+}
+
+// Whether the token that begins at `i`, which is no star, takes the byte. It uses one of the budget.
+fn test_byte(p: &[u8], i: usize, b: u8, budget: Budget) -> Tested
+    requires { ⌜ (i < length (now p)) × (getD (now p) i 0 ≡ 42 → ⊥) × Usable (length (now p)) budget ⌝ }
+    ensures { λ r. ⌜ Tests (now (p .entry)) i b budget r ⌝ }
+{
+    match spend(budget, p.len()) {
+        Spent::Left(left) => {
+            let c = p[i];
+            let k = i + 1;
+            if c == b'?' {
+                return Tested::Past(k, left);
             }
-            if matches_at(p, k, s, j) {
+            if c == b'\\' {
+                if p.len() <= k {
+                    return Tested::Off(left);
+                }
+                if p[k] == b {
+                    return Tested::Past(k + 1, left);
+                }
+                return Tested::Off(left);
+            }
+            if c == b'[' {
+                let e = set::close(p, k);
+                if p.len() <= e {
+                    return Tested::Off(left);
+                }
+                if set::in_set(&p[k..e], b) {
+                    return Tested::Past(e + 1, left);
+                }
+                return Tested::Off(left);
+            }
+            if c == b {
+                return Tested::Past(k, left);
+            }
+            Tested::Off(left)
+        }
+        Spent::Nothing => Tested::Exhausted,
+    }
+}
+
+// What trying the pattern at a place of the name comes to.
+pub enum Tried {
+    // It matches the whole rest of the name.
+    Whole,
+    // It matches up to its next star: the places behind the star and behind the bytes taken, and what is left.
+    Star(usize, usize, Budget),
+    // It does not match here, and there is a byte more to begin behind.
+    Off(Budget),
+    // The name ends before the pattern does: it matches neither here nor at a later byte.
+    Short,
+    // The budget is spent. It never comes to that, which is part of the contract of `try_at`.
+    Exhausted,
+}
+
+// Tries the pattern from `i` on at the name's byte `j`, up to the next star and without going back.
+fn try_at(p: &[u8], i: usize, name: &[u8], j: usize, budget: Budget) -> Tried
+    requires { ⌜ (i ≤ length (now p)) × (j ≤ length (now name)) × Covers (length (now p)) (length (now name) - j) budget ⌝ }
+    ensures { λ r. ⌜ Tries (now (p .entry)) i (now (name .entry)) j budget r ⌝ }
+{
+    let mut at = i;
+    let mut to = j;
+    let mut left = budget;
+    while at < p.len() {
+        if p[at] == b'*' {
+            return Tried::Star(at + 1, to, left);
+        }
+        if name.len() <= to {
+            return Tried::Short;
+        }
+        match test_byte(p, at, name[to], left) {
+            Tested::Past(next, less) => {
+                at = next;
+                to += 1;
+                left = less;
+            }
+            Tested::Off(less) => {
+                return Tried::Off(less);
+            }
+            Tested::Exhausted => {
+                return Tried::Exhausted;
+            }
+        }
+    }
+    if name.len() <= to {
+        return Tried::Whole;
+    }
+    Tried::Off(left)
+}
+
+// Whether the pattern from `i` on, behind a star, matches the whole rest of the name behind some run of bytes that
+// begins at `j`. At the next star the one before it is done with, and the last one takes whatever is left.
+fn match_behind(p: &[u8], i: usize, name: &[u8], j: usize, budget: Budget) -> bool
+    requires { ⌜ (i ≤ length (now p)) × (j ≤ length (now name)) × Covers (length (now p)) (length (now name) - j) budget ⌝ }
+    ensures { λ r. ⌜ r ≡ matchesBehind (drop i (now (p .entry))) (drop j (now (name .entry))) ⌝ }
+{
+    let mut star = i;
+    let mut from = j;
+    let mut left = budget;
+    while star < p.len() {
+        match try_at(p, star, name, from, left) {
+            Tried::Whole => {
                 return true;
             }
-            if s.len() <= j {
+            Tried::Star(next, to, less) => {
+                star = next;
+                from = to;
+                left = less;
+            }
+            Tried::Off(less) => {
+                from += 1;
+                left = less;
+            }
+            Tried::Short => {
                 return false;
             }
-            j += 1;
-            continue;
-        }
-        if s.len() <= j {
-            return false;
-        }
-        let b = s[j];
-        if c == b'?' {
-            i = k;
-            j += 1;
-            continue;
-        }
-        if c == b'\\' {
-            if p.len() <= k {
+            Tried::Exhausted => {
                 return false;
             }
-            if p[k] == b {
-                i = k + 1;
-                j += 1;
-                continue;
-            }
-            return false;
         }
-        if c == b'[' {
-            let e = set::close(p, k);
-            if p.len() <= e {
-                return false;
-            }
-            if set::in_set(&p[k..e], b) {
-                i = e + 1;
-                j += 1;
-                continue;
-            }
-            return false;
-        }
-        if c != b {
-            return false;
-        }
-        i = k;
-        j += 1;
     }
+    true
 }
 
 // Whether a brace-free pattern matches the whole name.
 pub fn matches_expansion(p: &[u8], name: &[u8]) -> bool
     ensures { λ r. ⌜ r ≡ matches (now (p .entry)) (now (name .entry)) ⌝ }
 {
-    matches_at(p, 0, name, 0)
+    let budget = Budget {
+        rows: name.len(),
+        used: 0,
+    };
+    match try_at(p, 0, name, 0, budget) {
+        Tried::Whole => true,
+        Tried::Star(next, to, left) => match_behind(p, next, name, to, left),
+        Tried::Off(_) => false,
+        Tried::Short => false,
+        Tried::Exhausted => false,
+    }
 }

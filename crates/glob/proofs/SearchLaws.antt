@@ -1,0 +1,253 @@
+-- The laws of matching by the last star only: a token, a try up to the next star, the tries behind one. Assumes nothing.
+use mathlib.Core.Path.{_≡_, refl, sym, _∙_}
+use mathlib.Core.Bool.{true, false, _&&_}
+use mathlib.Core.List.{List, [], _∷_}
+use mathlib.Core.Logic.{inl, inr}
+use Prim.Native.Nat.{ℕ, _+_, _-_, _≤_, _<_}
+use native.Mathlib.Numerals.{add-one}
+use native.Mathlib.Omega.{arith}
+use borrow.Author.Tests.{eq-eqb, ne-eqb, le-leb, lt-leb}
+use lib.ListN.{length, take, drop, getD, length-drop, drop-of-length-le}
+use lib.Seq.{drop-drop}
+use Rattle.text.specs.Lists.{any}
+use Rattle.text.specs.Contract.{lead}
+use Rattle.text.proofs.Laws.{next, both-true, either-no, either-of, either-true, false-of, same-test, clash}
+use Rattle.glob.specs.Set.{inSet}
+use Rattle.glob.specs.Match.{Token, anyRun, anyByte, noByte, thisByte, byteOf, signOf, star, question, backslash, bracket, ordinary, tokens, tails, matchTokens, matches}
+use Rattle.glob.specs.Contract.{worth, Usable, OneLess, Covers, isRun, takes, testsOf, TakesTo, TakesNot, matchesBehind, Stars, Fails, FailsOn}
+use Rattle.glob.specs.declared.matcher.Budget.{Budget}
+use Rattle.glob.proofs.BudgetLaws.{covers-row, covers-less, covers-on}
+use Rattle.glob.proofs.MatchLaws.{is-star, not-star, at-end, star-at, question-at, ordinary-at, escape-last, escape-at, set-open, set-at, none-left}
+
+-- ---- a token that is no star
+token-matches : (t : Token) (q : List Token) (b : ℕ) (s : List ℕ) → isRun t ≡ false → matchTokens (t ∷ q) (b ∷ s) ≡ takes t b && matchTokens q s
+unfolding matchTokens
+token-matches anyRun q b s e = clash cc
+token-matches anyByte q b s e = refl
+token-matches noByte q b s e = refl
+token-matches (thisByte c) q b s e = refl
+token-matches (byteOf t) q b s e = refl
+
+token-none : (t : Token) (q : List Token) → isRun t ≡ false → matchTokens (t ∷ q) [] ≡ false
+unfolding matchTokens
+token-none anyRun q e = clash cc
+token-none anyByte q e = refl
+token-none noByte q e = refl
+token-none (thisByte c) q e = refl
+token-none (byteOf t) q e = refl
+
+module _ (t : Token) (q : List Token) (b : ℕ) (s : List ℕ) (n : isRun t ≡ false) where
+  tests-on : takes t b ≡ true → testsOf (t ∷ q) (b ∷ s) ≡ testsOf q s + 1
+  unfolding testsOf
+  tests-on e = rw (n, e) (sym (add-one (testsOf q s)))
+
+  tests-off : takes t b ≡ false → testsOf (t ∷ q) (b ∷ s) ≡ 1
+  unfolding testsOf
+  tests-off e = rw (n, e)
+
+-- ---- the token at a place, and a byte
+module _ (p : List ℕ) (i b : ℕ) (old new : Budget) (l : i < length p) (u : OneLess (length p) old new) where
+  pub question-takes : signOf (getD p i 0) ≡ question → TakesTo p i b (i + 1) old new
+  question-takes e = record { token = anyByte; ahead = omega arith; high = omega arith; here = question-at p i l e; no-star = refl; taken = refl; less = u }
+
+  pub ordinary-takes : signOf (getD p i 0) ≡ ordinary → getD p i 0 ≡ b → TakesTo p i b (i + 1) old new
+  ordinary-takes e h = record { token = thisByte (getD p i 0); ahead = omega arith; high = omega arith; here = ordinary-at p i l e; no-star = refl; taken = eq-eqb _ _ h; less = u }
+
+  pub ordinary-not : signOf (getD p i 0) ≡ ordinary → (getD p i 0 ≡ b → ⊥) → TakesNot p i b old new
+  ordinary-not e h = record { token = thisByte (getD p i 0); rest = tokens (drop (i + 1) p); here = ordinary-at p i l e; no-star = refl; left = ne-eqb _ _ h; less = u }
+
+  module _ (e : signOf (getD p i 0) ≡ backslash) where
+    pub escape-end : length p ≤ i + 1 → TakesNot p i b old new
+    escape-end h = record { token = noByte; rest = []; here = escape-last p i l e h; no-star = refl; left = refl; less = u }
+
+    pub escape-takes : i + 1 < length p → getD p (i + 1) 0 ≡ b → TakesTo p i b (i + 1 + 1) old new
+    escape-takes g h = record { token = thisByte (getD p (i + 1) 0); ahead = omega arith; high = omega arith; here = escape-at p i l e g; no-star = refl; taken = eq-eqb _ _ h; less = u }
+
+    pub escape-not : i + 1 < length p → (getD p (i + 1) 0 ≡ b → ⊥) → TakesNot p i b old new
+    escape-not g h = record { token = thisByte (getD p (i + 1) 0); rest = tokens (drop (i + 1 + 1) p); here = escape-at p i l e g; no-star = refl; left = ne-eqb _ _ h; less = u }
+
+  module _ (e : ℕ) (o : signOf (getD p i 0) ≡ bracket) (k : e ≡ i + 1 + lead 93 (drop (i + 1) p)) where
+    pub set-end : length p ≤ e → TakesNot p i b old new
+    set-end h = record { token = noByte; rest = []; here = set-open p i l e o k h; no-star = refl; left = refl; less = u }
+
+    pub set-takes : e < length p → inSet (take (e - (i + 1)) (drop (i + 1) p)) b ≡ true → TakesTo p i b (e + 1) old new
+    set-takes h f = record { token = byteOf (take (e - (i + 1)) (drop (i + 1) p)); ahead = omega arith; high = omega arith; here = set-at p i l e o k h; no-star = refl; taken = f; less = u }
+
+    pub set-not : e < length p → inSet (take (e - (i + 1)) (drop (i + 1) p)) b ≡ false → TakesNot p i b old new
+    set-not h f = record { token = byteOf (take (e - (i + 1)) (drop (i + 1) p)); rest = tokens (drop (e + 1) p); here = set-at p i l e o k h; no-star = refl; left = f; less = u }
+
+-- the tests of trying p from i on at the name's byte j
+abbrev testsAt : List ℕ → ℕ → List ℕ → ℕ → ℕ
+testsAt p i s j = testsOf (tokens (drop i p)) (drop j s)
+
+-- ---- a star behind which nothing so short matches
+behind-none : (q : List ℕ) (n : ℕ) → ((t : List ℕ) → length t ≤ n → matches q t ≡ false) → (s : List ℕ) → length s ≤ n → matchesBehind q s ≡ false
+unfolding matchesBehind any tails
+behind-none q n f [] h = rw (f [] h)
+behind-none q n f (a ∷ s) h = rw (f (a ∷ s) h) (behind-none q n f s (omega arith))
+
+behind-tokens : (p : List ℕ) (i : ℕ) (s : List ℕ) → i < length p → signOf (getD p i 0) ≡ star → matchesBehind (drop (i + 1) p) s ≡ matches (drop i p) s
+unfolding matches matchTokens matchesBehind
+behind-tokens p i s l e = rw (star-at p i l e)
+
+-- ---- a try: the pattern from i on at the name's byte j has come to `at` and `to`
+pub record Trying (p : List ℕ) (i : ℕ) (s : List ℕ) (j : ℕ) (b : Budget) (at to : ℕ) (left : Budget) : Type 0 where
+  pub low : i ≤ at
+  pub high : at ≤ length p
+  pub begun : j ≤ to
+  pub most : to ≤ length s
+  pub usable : Usable (length p) left
+  -- each byte taken takes a token, and uses one test
+  pub pace : to + i ≤ at + j
+  pub spent : worth (length p) left + to ≡ worth (length p) b + j
+  pub tests : testsAt p i s j + j ≡ testsAt p at s to + to
+  pub same : matches (drop at p) (drop to s) ≡ matches (drop i p) (drop j s)
+  pub later : (t : List ℕ) → matches (drop i p) t ≡ true → matches (drop at p) (drop (to - j) t) ≡ true
+
+pub try-begins : (p : List ℕ) (i : ℕ) (s : List ℕ) (j : ℕ) (b : Budget) → i ≤ length p → j ≤ length s → Usable (length p) b → Trying p i s j b i j b
+try-begins p i s j b h g u =
+    let z : j - j ≡ 0 = omega arith in
+    record { low = omega arith; high = h; begun = omega arith; most = g; usable = u; pace = omega arith; spent = refl; tests = refl; same = refl; later = λ t m. rw z m }
+
+module _ {p : List ℕ} {i : ℕ} {s : List ℕ} {j : ℕ} {b : Budget} {at to : ℕ} {left : Budget} (w : Trying p i s j b at to left) where
+  -- the budget is not spent
+  pub try-left : Covers (length p) (length s - j) b → at < length p → to < length s → worth (length p) left ≡ 0 → ⊥
+  try-left c h g z =
+      let r : length p ≤ worth (length p) b = covers-row (length p) (length s - j) b c (omega (arith, w .begun)) in
+      omega (arith, r, w .spent, w .pace, w .begun)
+
+  pub try-whole : length p ≤ at → length s ≤ to → true ≡ matches (drop i p) (drop j s)
+  try-whole h g = sym (le-leb _ _ g) ∙ at-end p s at to h (w .most) ∙ w .same
+
+  pub try-rest : length p ≤ at → to < length s → Fails p i s j b left
+  unfolding tokens testsOf
+  try-rest h g =
+      let z : testsAt p at s to ≡ 0 = rw (drop-of-length-le p h) in
+      record {
+        more = omega (arith, w .begun);
+        usable = w .usable;
+        uses = omega (arith, w .spent, w .tests, w .begun, z);
+        spent = omega (arith, w .spent, w .pace, w .high, w .begun);
+        same = sym (lt-leb _ _ g) ∙ at-end p s at to h (w .most) ∙ w .same;
+      }
+
+  module _ (h : at < length p) where
+    pub try-star : getD p at 0 ≡ 42 → Stars p i s j (at + 1) to b left
+    unfolding testsOf
+    try-star e =
+        let z : testsAt p at s to ≡ 0 = rw (star-at p at h (is-star e)) in
+        record {
+          ahead = omega (arith, w .low);
+          high = omega arith;
+          low = w .begun;
+          most = w .most;
+          usable = w .usable;
+          uses = omega (arith, w .spent, w .tests, w .begun, z);
+          spent = w .spent;
+          same = behind-tokens p at (drop to s) h (is-star e) ∙ w .same;
+          later = λ t m. behind-tokens p at (drop (to - j) t) h (is-star e) ∙ w .later t m;
+        }
+
+    -- where the name ends, no later start is long enough
+    pub try-short : (getD p at 0 ≡ 42 → ⊥) → length s ≤ to → FailsOn p i s j
+    try-short n g = record { here = here; later = sym (behind-none (drop i p) (to - j) few (drop j s) (omega (arith, w .begun, length-drop j s))) }
+      where
+        here : false ≡ matches (drop i p) (drop j s)
+        here = sym (rw (drop-of-length-le s g) (none-left p at h (not-star n))) ∙ w .same
+
+        few : (t : List ℕ) → length t ≤ to - j → matches (drop i p) t ≡ false
+        few t k = false-of _ (λ e. clash (let z : false ≡ true = sym (none-left p at h (not-star n)) ∙ rw (drop-of-length-le t k) at (w .later t e) in cc))
+
+    pub try-off : (less : Budget) → to < length s → TakesNot p at (getD s to 0) left less → Fails p i s j b less
+    unfolding matches
+    try-off less g f =
+        let z : testsAt p at s to ≡ 1 = rw (f .here, next s to g) (tests-off (f .token) (f .rest) (getD s to 0) (drop (to + 1) s) (f .no-star) (f .left)) in
+        let m : matches (drop at p) (drop to s) ≡ false = rw (f .here, next s to g) (token-matches (f .token) (f .rest) (getD s to 0) (drop (to + 1) s) (f .no-star) ∙ rw (f .left)) in
+        record {
+          more = omega (arith, w .begun);
+          usable = f .less .usable;
+          uses = omega (arith, w .spent, w .tests, w .begun, f .less .spent, z);
+          spent = omega (arith, w .spent, w .pace, w .begun, f .less .spent);
+          same = sym m ∙ w .same;
+        }
+
+    pub try-on : (less : Budget) (k : ℕ) → to < length s → TakesTo p at (getD s to 0) k left less → Trying p i s j b k (to + 1) less
+    unfolding matches
+    try-on less k g f =
+        let z : testsAt p at s to ≡ testsAt p k s (to + 1) + 1 = rw (f .here, next s to g) (tests-on (f .token) (tokens (drop k p)) (getD s to 0) (drop (to + 1) s) (f .no-star) (f .taken)) in
+        let m : matches (drop at p) (drop to s) ≡ matches (drop k p) (drop (to + 1) s) = rw (f .here, next s to g) (token-matches (f .token) (tokens (drop k p)) (getD s to 0) (drop (to + 1) s) (f .no-star) ∙ rw (f .taken)) in
+        record {
+          low = omega (arith, w .low, f .ahead);
+          high = f .high;
+          begun = omega (arith, w .begun);
+          most = omega arith;
+          usable = f .less .usable;
+          pace = omega (arith, w .pace, f .ahead);
+          spent = omega (arith, w .spent, f .less .spent);
+          tests = omega (arith, w .tests, z);
+          same = sym m ∙ w .same;
+          later = go;
+        }
+      where
+        on : (t : List ℕ) → matches (drop at p) t ≡ true → matches (drop k p) (drop 1 t) ≡ true
+        on [] e = clash (let y : false ≡ true = sym (token-none (f .token) (tokens (drop k p)) (f .no-star)) ∙ rw (f .here) at e in cc)
+        on (c ∷ t) e = both-true (takes (f .token) c) _ (sym (token-matches (f .token) (tokens (drop k p)) c t (f .no-star)) ∙ rw (f .here) at e) .1
+
+        go : (t : List ℕ) → matches (drop i p) t ≡ true → matches (drop k p) (drop (to + 1 - j) t) ≡ true
+        go t e =
+            let u : to + 1 - j ≡ to - j + 1 = omega (arith, w .begun) in
+            rw (u, ← (drop-drop 1 (to - j) t)) (on _ (w .later t e))
+
+-- ---- behind a star
+behind-here : (q s : List ℕ) → matches q s ≡ true → matchesBehind q s ≡ true
+unfolding matchesBehind any tails
+behind-here q [] e = rw e
+behind-here q (a ∷ s) e = rw e
+
+behind-more : (q s : List ℕ) → matchesBehind q (drop 1 s) ≡ true → matchesBehind q s ≡ true
+unfolding matchesBehind any tails
+behind-more q [] e = e
+behind-more q (a ∷ s) e = either-of (matches q (a ∷ s)) _ e
+
+behind-later : (q r : List ℕ) (n : ℕ) → ((t : List ℕ) → matches q t ≡ true → matchesBehind r (drop n t) ≡ true) → (s : List ℕ) → matchesBehind q s ≡ true → matchesBehind r (drop n s) ≡ true
+unfolding matchesBehind any tails
+behind-later q r n f [] e = f [] (sym (either-no (matches q [])) ∙ e)
+behind-later q r n f (a ∷ s) e = elim (either-true (matches q (a ∷ s)) _ e) [ inl h ↦ f (a ∷ s) h | inr h ↦ on (behind-later q r n f s h) ]
+  where
+    on : matchesBehind r (drop n s) ≡ true → matchesBehind r (drop n (a ∷ s)) ≡ true
+    on m = behind-more r (drop n (a ∷ s)) (rw (drop-drop 1 n (a ∷ s), add-one) m)
+
+pub behind-whole : (q s : List ℕ) → true ≡ matches q s → true ≡ matchesBehind q s
+behind-whole q s e = sym (behind-here q s (sym e))
+
+-- a star that nothing follows takes whatever is left
+behind-end : (s : List ℕ) → matchesBehind [] s ≡ true
+unfolding matchesBehind any tails matches tokens matchTokens
+behind-end [] = refl
+behind-end (a ∷ s) = behind-end s
+
+pub behind-all : (p s : List ℕ) (i : ℕ) → length p ≤ i → true ≡ matchesBehind (drop i p) s
+behind-all p s i h = rw (drop-of-length-le p h) (sym (behind-end s))
+
+module _ {p : List ℕ} {i : ℕ} {s : List ℕ} {j : ℕ} {b : Budget} where
+  -- what follows the next star: the one before it need not be gone back to
+  pub behind-star : (k m : ℕ) (l : Budget) → Stars p i s j k m b l → matchesBehind (drop k p) (drop m s) ≡ matchesBehind (drop i p) (drop j s)
+  behind-star k m l w = same-test _ _ (λ e. behind-here _ _ (sym (w .same) ∙ e)) back
+    where
+      back : matchesBehind (drop i p) (drop j s) ≡ true → matchesBehind (drop k p) (drop m s) ≡ true
+      back e =
+          let u : j + (m - j) ≡ m = omega (arith, w .low) in
+          rw (drop-drop (m - j) j s, u) at (behind-later (drop i p) (drop k p) (m - j) (w .later) (drop j s) e)
+
+  pub covers-star : (k m : ℕ) (l : Budget) → Covers (length p) (length s - j) b → Stars p i s j k m b l → Covers (length p) (length s - m) l
+  covers-star k m l c w = covers-on (length p) (length s - j) (length s - m) (m - j) b l (omega (arith, w .low, w .most)) (omega (arith, w .ahead, w .high)) (w .usable) c (omega (arith, w .spent, w .low))
+
+  module _ (l : Budget) (w : Fails p i s j b l) where
+    pub behind-next : matchesBehind (drop i p) (drop (j + 1) s) ≡ matchesBehind (drop i p) (drop j s)
+    unfolding matchesBehind any tails
+    behind-next =
+        let h : j < length s = w .more in
+        rw (next s j h) (rw (← (rw (next s j h) at (w .same))))
+
+    pub covers-next : Covers (length p) (length s - j) b → Covers (length p) (length s - (j + 1)) l
+    covers-next c = covers-less (length p) (length s - j) (length s - (j + 1)) b l (omega (arith, w .more)) (w .usable) c (w .spent)
