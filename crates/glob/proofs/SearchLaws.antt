@@ -1,17 +1,18 @@
 -- The laws of matching by the last star only: a token, a try up to the next star, the tries behind one. Assumes nothing.
 use mathlib.Core.Path.{_≡_, refl, sym, _∙_}
-use mathlib.Core.Bool.{true, false, _&&_}
+use mathlib.Core.Bool.{Bool, true, false, cond, _&&_}
 use mathlib.Core.List.{List, [], _∷_}
 use mathlib.Core.Logic.{inl, inr}
 use Prim.Native.Nat.{ℕ, _+_, _-_, _≤_, _<_}
 use native.Mathlib.Numerals.{add-one}
 use native.Mathlib.Omega.{arith}
 use borrow.Author.Tests.{eq-eqb, ne-eqb, le-leb, lt-leb}
+use lib.Dec.{eqb}
 use lib.ListN.{length, take, drop, getD, length-drop, drop-of-length-le}
 use lib.Seq.{drop-drop}
 use Rattle.text.specs.Lists.{any}
 use Rattle.text.specs.Contract.{lead}
-use Rattle.text.proofs.Laws.{next, both-true, either-no, either-of, either-true, false-of, same-test, clash}
+use Rattle.text.proofs.Laws.{next, both-true, either-no, either-of, either-true, false-of, same-test, pick-of, clash}
 use Rattle.glob.specs.Set.{inSet}
 use Rattle.glob.specs.Match.{Token, anyRun, anyByte, noByte, thisByte, byteOf, signOf, star, question, backslash, bracket, ordinary, tokens, tails, matchTokens, matches}
 use Rattle.glob.specs.Contract.{worth, Usable, OneLess, Covers, isRun, takes, testsOf, TakesTo, TakesNot, matchesBehind, Stars, Fails, FailsOn}
@@ -54,27 +55,27 @@ module _ (p : List ℕ) (i b : ℕ) (old new : Budget) (l : i < length p) (u : O
   ordinary-takes e h = record { token = thisByte (getD p i 0); ahead = omega arith; high = omega arith; here = ordinary-at p i l e; no-star = refl; taken = eq-eqb _ _ h; less = u }
 
   pub ordinary-not : signOf (getD p i 0) ≡ ordinary → (getD p i 0 ≡ b → ⊥) → TakesNot p i b old new
-  ordinary-not e h = record { token = thisByte (getD p i 0); rest = tokens (drop (i + 1) p); here = ordinary-at p i l e; no-star = refl; left = ne-eqb _ _ h; less = u }
+  ordinary-not e h = record { token = thisByte (getD p i 0); rest = tokens (drop (i + 1) p); here = ordinary-at p i l e; no-star = refl; not-taken = ne-eqb _ _ h; less = u }
 
   module _ (e : signOf (getD p i 0) ≡ backslash) where
     pub escape-end : length p ≤ i + 1 → TakesNot p i b old new
-    escape-end h = record { token = noByte; rest = []; here = escape-last p i l e h; no-star = refl; left = refl; less = u }
+    escape-end h = record { token = noByte; rest = []; here = escape-last p i l e h; no-star = refl; not-taken = refl; less = u }
 
     pub escape-takes : i + 1 < length p → getD p (i + 1) 0 ≡ b → TakesTo p i b (i + 1 + 1) old new
     escape-takes g h = record { token = thisByte (getD p (i + 1) 0); ahead = omega arith; high = omega arith; here = escape-at p i l e g; no-star = refl; taken = eq-eqb _ _ h; less = u }
 
     pub escape-not : i + 1 < length p → (getD p (i + 1) 0 ≡ b → ⊥) → TakesNot p i b old new
-    escape-not g h = record { token = thisByte (getD p (i + 1) 0); rest = tokens (drop (i + 1 + 1) p); here = escape-at p i l e g; no-star = refl; left = ne-eqb _ _ h; less = u }
+    escape-not g h = record { token = thisByte (getD p (i + 1) 0); rest = tokens (drop (i + 1 + 1) p); here = escape-at p i l e g; no-star = refl; not-taken = ne-eqb _ _ h; less = u }
 
   module _ (e : ℕ) (o : signOf (getD p i 0) ≡ bracket) (k : e ≡ i + 1 + lead 93 (drop (i + 1) p)) where
     pub set-end : length p ≤ e → TakesNot p i b old new
-    set-end h = record { token = noByte; rest = []; here = set-open p i l e o k h; no-star = refl; left = refl; less = u }
+    set-end h = record { token = noByte; rest = []; here = set-open p i l e o k h; no-star = refl; not-taken = refl; less = u }
 
     pub set-takes : e < length p → inSet (take (e - (i + 1)) (drop (i + 1) p)) b ≡ true → TakesTo p i b (e + 1) old new
     set-takes h f = record { token = byteOf (take (e - (i + 1)) (drop (i + 1) p)); ahead = omega arith; high = omega arith; here = set-at p i l e o k h; no-star = refl; taken = f; less = u }
 
     pub set-not : e < length p → inSet (take (e - (i + 1)) (drop (i + 1) p)) b ≡ false → TakesNot p i b old new
-    set-not h f = record { token = byteOf (take (e - (i + 1)) (drop (i + 1) p)); rest = tokens (drop (e + 1) p); here = set-at p i l e o k h; no-star = refl; left = f; less = u }
+    set-not h f = record { token = byteOf (take (e - (i + 1)) (drop (i + 1) p)); rest = tokens (drop (e + 1) p); here = set-at p i l e o k h; no-star = refl; not-taken = f; less = u }
 
 -- the tests of trying p from i on at the name's byte j
 abbrev testsAt : List ℕ → ℕ → List ℕ → ℕ → ℕ
@@ -161,8 +162,8 @@ module _ {p : List ℕ} {i : ℕ} {s : List ℕ} {j : ℕ} {b : Budget} {at to :
     pub try-off : (less : Budget) → to < length s → TakesNot p at (getD s to 0) left less → Fails p i s j b less
     unfolding matches
     try-off less g f =
-        let z : testsAt p at s to ≡ 1 = rw (f .here, next s to g) (tests-off (f .token) (f .rest) (getD s to 0) (drop (to + 1) s) (f .no-star) (f .left)) in
-        let m : matches (drop at p) (drop to s) ≡ false = rw (f .here, next s to g) (token-matches (f .token) (f .rest) (getD s to 0) (drop (to + 1) s) (f .no-star) ∙ rw (f .left)) in
+        let z : testsAt p at s to ≡ 1 = rw (f .here, next s to g) (tests-off (f .token) (f .rest) (getD s to 0) (drop (to + 1) s) (f .no-star) (f .not-taken)) in
+        let m : matches (drop at p) (drop to s) ≡ false = rw (f .here, next s to g) (token-matches (f .token) (f .rest) (getD s to 0) (drop (to + 1) s) (f .no-star) ∙ rw (f .not-taken)) in
         record {
           more = omega (arith, w .begun);
           usable = f .less .usable;
@@ -217,37 +218,77 @@ behind-later q r n f (a ∷ s) e = elim (either-true (matches q (a ∷ s)) _ e) 
     on : matchesBehind r (drop n s) ≡ true → matchesBehind r (drop n (a ∷ s)) ≡ true
     on m = behind-more r (drop n (a ∷ s)) (rw (drop-drop 1 n (a ∷ s), add-one) m)
 
-pub behind-whole : (q s : List ℕ) → true ≡ matches q s → true ≡ matchesBehind q s
-behind-whole q s e = sym (behind-here q s (sym e))
-
 -- a star that nothing follows takes whatever is left
 behind-end : (s : List ℕ) → matchesBehind [] s ≡ true
 unfolding matchesBehind any tails matches tokens matchTokens
 behind-end [] = refl
 behind-end (a ∷ s) = behind-end s
 
-pub behind-all : (p s : List ℕ) (i : ℕ) → length p ≤ i → true ≡ matchesBehind (drop i p) s
-behind-all p s i h = rw (drop-of-length-le p h) (sym (behind-end s))
+-- ---- the search
+-- what is looked for: the pattern itself, or, once a star was met, what follows the last one behind some run of bytes
+unfoldable pub sought : ℕ → List ℕ → List ℕ → Bool
+sought i q s = cond (eqb i 0) (matches q s) (matchesBehind q s)
 
-module _ {p : List ℕ} {i : ℕ} {s : List ℕ} {j : ℕ} {b : Budget} where
-  -- what follows the next star: the one before it need not be gone back to
-  pub behind-star : (k m : ℕ) (l : Budget) → Stars p i s j k m b l → matchesBehind (drop k p) (drop m s) ≡ matchesBehind (drop i p) (drop j s)
-  behind-star k m l w = same-test _ _ (λ e. behind-here _ _ (sym (w .same) ∙ e)) back
-    where
-      back : matchesBehind (drop i p) (drop j s) ≡ true → matchesBehind (drop k p) (drop m s) ≡ true
-      back e =
-          let u : j + (m - j) ≡ m = omega (arith, w .low) in
-          rw (drop-drop (m - j) j s, u) at (behind-later (drop i p) (drop k p) (m - j) (w .later) (drop j s) e)
+pub sought-begins : (p s : List ℕ) → sought 0 (drop 0 p) (drop 0 s) ≡ matches p s
+unfolding sought
+sought-begins p s = refl
 
-  pub covers-star : (k m : ℕ) (l : Budget) → Covers (length p) (length s - j) b → Stars p i s j k m b l → Covers (length p) (length s - m) l
-  covers-star k m l c w = covers-on (length p) (length s - j) (length s - m) (m - j) b l (omega (arith, w .low, w .most)) (omega (arith, w .ahead, w .high)) (w .usable) c (omega (arith, w .spent, w .low))
+module _ (i : ℕ) (q s : List ℕ) where
+  pub sought-whole : true ≡ matches q s → true ≡ sought i q s
+  unfolding sought
+  sought-whole e = pick-of (λ r. true ≡ r) (eqb i 0) e (sym (behind-here q s (sym e)))
 
-  module _ (l : Budget) (w : Fails p i s j b l) where
-    pub behind-next : matchesBehind (drop i p) (drop (j + 1) s) ≡ matchesBehind (drop i p) (drop j s)
+  sought-behind : (i ≡ 0 → ⊥) → sought i q s ≡ matchesBehind q s
+  unfolding sought
+  sought-behind n = rw (ne-eqb _ _ n)
+
+  sought-here : i ≡ 0 → sought i q s ≡ matches q s
+  unfolding sought
+  sought-here e = rw (eq-eqb _ _ e)
+
+module _ {p : List ℕ} {i : ℕ} {s : List ℕ} {j : ℕ} where
+  pub sought-short : FailsOn p i s j → false ≡ sought i (drop i p) (drop j s)
+  unfolding sought
+  sought-short w = pick-of (λ r. false ≡ r) (eqb i 0) (w .here) (w .later)
+
+  module _ {b l : Budget} {k m : ℕ} (w : Stars p i s j k m b l) where
+    -- what follows the next star: the one before it need not be gone back to
+    behind-star : matchesBehind (drop k p) (drop m s) ≡ matchesBehind (drop i p) (drop j s)
+    behind-star = same-test _ _ (λ e. behind-here _ _ (sym (w .same) ∙ e)) back
+      where
+        back : matchesBehind (drop i p) (drop j s) ≡ true → matchesBehind (drop k p) (drop m s) ≡ true
+        back e =
+            let u : j + (m - j) ≡ m = omega (arith, w .low) in
+            rw (drop-drop (m - j) j s, u) at (behind-later (drop i p) (drop k p) (m - j) (w .later) (drop j s) e)
+
+    star-sought : matchesBehind (drop k p) (drop m s) ≡ sought i (drop i p) (drop j s)
+    unfolding sought
+    star-sought = pick-of (λ r. matchesBehind (drop k p) (drop m s) ≡ r) (eqb i 0) (w .same) behind-star
+
+    pub sought-star : sought k (drop k p) (drop m s) ≡ sought i (drop i p) (drop j s)
+    sought-star = sought-behind k (drop k p) (drop m s) (λ e. omega (arith, w .ahead)) ∙ star-sought
+
+    pub sought-end : k ≡ length p → true ≡ sought i (drop i p) (drop j s)
+    sought-end e =
+        let h : length p ≤ k = omega arith in
+        sym (rw (drop-of-length-le p h) (behind-end (drop m s))) ∙ star-sought
+
+    pub covers-star : Covers (length p) (length s - j) b → Covers (length p) (length s - m) l
+    covers-star c = covers-on (length p) (length s - j) (length s - m) (m - j) b l (omega (arith, w .low, w .most)) (omega (arith, w .ahead, w .high)) (w .usable) c (omega (arith, w .spent, w .low))
+
+  module _ {b l : Budget} (w : Fails p i s j b l) where
+    behind-next : matchesBehind (drop i p) (drop (j + 1) s) ≡ matchesBehind (drop i p) (drop j s)
     unfolding matchesBehind any tails
     behind-next =
         let h : j < length s = w .more in
         rw (next s j h) (rw (← (rw (next s j h) at (w .same))))
+
+    pub sought-next : (i ≡ 0 → ⊥) → sought i (drop i p) (drop (j + 1) s) ≡ sought i (drop i p) (drop j s)
+    sought-next n = sought-behind i (drop i p) (drop (j + 1) s) n ∙ behind-next ∙ sym (sought-behind i (drop i p) (drop j s) n)
+
+    -- before the first star there is nothing to go back to
+    pub sought-fails : i ≡ 0 → false ≡ sought i (drop i p) (drop j s)
+    sought-fails e = w .same ∙ sym (sought-here i (drop i p) (drop j s) e)
 
     pub covers-next : Covers (length p) (length s - j) b → Covers (length p) (length s - (j + 1)) l
     covers-next c = covers-less (length p) (length s - j) (length s - (j + 1)) b l (omega (arith, w .more)) (w .usable) c (w .spent)

@@ -137,7 +137,7 @@ pub record TakesNot (p : List ℕ) (i b : ℕ) (old new : Budget) : Type 0 where
   pub rest : List Token
   pub here : tokens (drop i p) ≡ token ∷ rest
   pub no-star : isRun token ≡ false
-  pub left : takes token b ≡ false
+  pub not-taken : takes token b ≡ false
   pub less : OneLess (length p) old new
 
 abbrev pub Tests : List ℕ → ℕ → ℕ → Budget → Tested → Type 0

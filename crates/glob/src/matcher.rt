@@ -3,9 +3,9 @@
 use super::set;
 ghost use mathlib.Core.Path.{_≡_};
 ghost use Prim.Native.Nat.{_-_, _≤_, _<_};
-ghost use lib.ListN.{length, drop, getD};
+ghost use lib.ListN.{length, getD};
 ghost use Rattle.glob.specs.Match.{matches};
-ghost use Rattle.glob.specs.Contract.{Usable, Spends, Covers, Tests, Tries, matchesBehind};
+ghost use Rattle.glob.specs.Contract.{Usable, Spends, Covers, Tests, Tries};
 
 // The tests that are left: so many rows, each as long as the pattern, less those used of the first. The product of two
 // lengths need not fit a number.
@@ -142,26 +142,35 @@ fn try_at(p: &[u8], i: usize, name: &[u8], j: usize, budget: Budget) -> Tried
     Tried::Off(left)
 }
 
-// Whether the pattern from `i` on, behind a star, matches the whole rest of the name behind some run of bytes that
-// begins at `j`. At the next star the one before it is done with, and the last one takes whatever is left.
-fn match_behind(p: &[u8], i: usize, name: &[u8], j: usize, budget: Budget) -> bool
-    requires { ⌜ (i ≤ length (now p)) × (j ≤ length (now name)) × Covers (length (now p)) (length (now name) - j) budget ⌝ }
-    ensures { λ r. ⌜ r ≡ matchesBehind (drop i (now (p .entry))) (drop j (now (name .entry))) ⌝ }
+// Whether a brace-free pattern matches the whole name. What follows the last star is tried at one byte after the other; at
+// the next star the one before it is done with, and a star at the end takes whatever is left.
+pub fn matches_expansion(p: &[u8], name: &[u8]) -> bool
+    ensures { λ r. ⌜ r ≡ matches (now (p .entry)) (now (name .entry)) ⌝ }
 {
-    let mut star = i;
-    let mut from = j;
-    let mut left = budget;
-    while star < p.len() {
+    // Behind the last star, or 0 before the first one.
+    let mut star = 0;
+    let mut from = 0;
+    let mut left = Budget {
+        rows: name.len(),
+        used: 0,
+    };
+    loop {
         match try_at(p, star, name, from, left) {
             Tried::Whole => {
                 return true;
             }
             Tried::Star(next, to, less) => {
+                if next == p.len() {
+                    return true;
+                }
                 star = next;
                 from = to;
                 left = less;
             }
             Tried::Off(less) => {
+                if star == 0 {
+                    return false;
+                }
                 from += 1;
                 left = less;
             }
@@ -172,23 +181,5 @@ fn match_behind(p: &[u8], i: usize, name: &[u8], j: usize, budget: Budget) -> bo
                 return false;
             }
         }
-    }
-    true
-}
-
-// Whether a brace-free pattern matches the whole name.
-pub fn matches_expansion(p: &[u8], name: &[u8]) -> bool
-    ensures { λ r. ⌜ r ≡ matches (now (p .entry)) (now (name .entry)) ⌝ }
-{
-    let budget = Budget {
-        rows: name.len(),
-        used: 0,
-    };
-    match try_at(p, 0, name, 0, budget) {
-        Tried::Whole => true,
-        Tried::Star(next, to, left) => match_behind(p, next, name, to, left),
-        Tried::Off(_) => false,
-        Tried::Short => false,
-        Tried::Exhausted => false,
     }
 }

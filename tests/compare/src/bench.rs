@@ -46,6 +46,22 @@ pub fn run(name: Option<&str>) -> usize {
     wrong
 }
 
+/// The best time of the call alone, in nanoseconds.
+pub fn nanoseconds(asked: &Asked) -> f64 {
+    let mut buffer = asked.buffer.clone();
+    let mut report = asked.report.clone();
+    let rounds = BYTES.div_ceil(asked.table.len());
+    let mut best = f64::INFINITY;
+    for _ in 0..TRIES {
+        let begin = Instant::now();
+        for _ in 0..rounds {
+            black_box(call(black_box(asked), &mut buffer, &mut report));
+        }
+        best = best.min(begin.elapsed().as_nanos() as f64 / rounds as f64);
+    }
+    best
+}
+
 /// Call the library so often on the tables with this name, for a profiler; the bytes that it read.
 pub fn repeat(name: &str, rounds: usize) -> usize {
     let mut bytes = 0;

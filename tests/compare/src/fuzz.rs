@@ -7,10 +7,6 @@ use crate::call::{before, difference, Asked, Caller, Outcome};
 use crate::grammar::{self, Grammar, Question};
 use crate::random::Random;
 
-/// The most stars of one pattern: until request (iii) the time to match one grows with the power of
-/// their number. That request takes the limit away, and `limit_stars` with it.
-const STARS: usize = 3;
-
 /// From so many rounds on every answer and every cause must have been seen.
 const ENOUGH: u64 = 100_000;
 
@@ -99,8 +95,7 @@ impl Seen {
 /// One call's arguments.
 fn asked(random: &mut Random) -> Asked {
     let question = grammar::question(random);
-    let mut table = table(random, &question);
-    limit_stars(&mut table);
+    let table = table(random, &question);
     let mut groups = supertab::zero_ended(&question.groups);
     let mut arguments = supertab::zero_ended(&question.arguments);
     let mut asked = Asked {
@@ -200,67 +195,5 @@ fn damage(random: &mut Random, bytes: &mut Vec<u8>) {
             }
             _ => {}
         }
-    }
-}
-
-/// Put `?` for stars until no field can have more than so many after substitution.
-///
-/// The bound is a coarse one: a field's own stars, and for each `$` as many as any text can have. A
-/// control line in which quotes or joins may carry blanks into a field counts as one field.
-fn limit_stars(table: &mut [u8]) {
-    let mut most_in_text = 0;
-    let mut begin = 0;
-    while begin < table.len() {
-        let ends =
-            |place: &usize| table[*place] == b'\n' && (*place == 0 || table[*place - 1] != b'\\');
-        let end = (begin..table.len()).find(ends).unwrap_or(table.len());
-        let line = &mut table[begin..end];
-        let joined = b"'\"\n".iter().any(|mark| line.contains(mark));
-        let parts = |byte: &u8| !joined && (*byte == b' ' || *byte == b'\t');
-        for field in line.split_mut(parts) {
-            let dollars = count(field, b'$');
-            if dollars * most_in_text > STARS {
-                replace(field, b'$', b'%');
-            } else if count(field, b'*') + dollars * most_in_text > STARS {
-                replace(field, b'*', b'?');
-            }
-        }
-        if line.contains(&b':') {
-            let stars = count(line, b'*') + count(line, b'$') * most_in_text;
-            most_in_text = most_in_text.max(stars);
-        }
-        begin = end + 1;
-    }
-}
-
-fn count(bytes: &[u8], sought: u8) -> usize {
-    bytes.iter().filter(|byte| **byte == sought).count()
-}
-
-fn replace(bytes: &mut [u8], old: u8, new: u8) {
-    for byte in bytes.iter_mut().filter(|byte| **byte == old) {
-        *byte = new;
-    }
-}
-
-#[cfg(test)]
-mod tests {
-    use super::*;
-
-    fn limited(table: &str) -> String {
-        let mut bytes = table.as_bytes().to_vec();
-        limit_stars(&mut bytes);
-        String::from_utf8(bytes).expect("only ASCII was put in")
-    }
-
-    #[test]
-    fn stars_are_limited() {
-        assert_eq!(limited("a*b*c* /p *\n"), "a*b*c* /p *\n");
-        assert_eq!(limited("a*b*c*d* /p *\n"), "a?b?c?d? /p *\n");
-        assert_eq!(limited("'a* b*' /*/* ann\n"), "'a? b?' /?/? ann\n");
-        assert_eq!(limited(":define X **\nc /p $X $X$X\n"), ":define X **\nc /p $X %X%X\n");
-        assert_eq!(limited(":define X *\nc /p $X$X*\n"), ":define X *\nc /p $X$X*\n");
-        assert_eq!(limited(":define X *\nc /p $X$X**\n"), ":define X *\nc /p $X$X??\n");
-        assert_eq!(limited("a* /p **\\\n *\n* * *\n"), "a? /p ??\\\n ?\n* * *\n");
     }
 }

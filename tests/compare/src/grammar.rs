@@ -1,6 +1,7 @@
 //! Random questions, and random tables that mean something for them.
 
 use crate::random::Random;
+use crate::stars;
 
 const USERS: [&str; 7] = ["ann", "bo", "tmp", "root", "kim", "a.b-c", "x"];
 const GROUPS: [&str; 5] = ["bench", "guest", "z", "b_1", "staff"];
@@ -47,6 +48,15 @@ pub fn question(random: &mut Random) -> Question {
         minute: if random.one_in(20) { 10_079 + random.below(2) as u32 } else { week(random) },
         age: ages[random.below(ages.len())],
         arguments: (0..argument_count).map(|_| name(random, &ARGUMENTS, 256)).collect(),
+    }
+}
+
+/// What stands for a byte in a pattern.
+pub fn literal(byte: u8) -> String {
+    match byte {
+        b'*' | b'?' | b'[' | b']' | b'{' | b'}' | b'\\' | b',' => format!("\\{}", byte as char),
+        0x21..=0x7E => (byte as char).to_string(),
+        _ => "?".to_string(),
     }
 }
 
@@ -162,17 +172,8 @@ impl Grammar<'_> {
 
     /// A pattern, most often one that matches the name.
     fn pattern(&mut self, name: &[u8], others: &[&'static str]) -> String {
-        let plain: String = name
-            .iter()
-            .map(|byte| match byte {
-                b'*' | b'?' | b'[' | b']' | b'{' | b'}' | b'\\' | b',' => {
-                    format!("\\{}", *byte as char)
-                }
-                0x21..=0x7E => (*byte as char).to_string(),
-                _ => "?".to_string(),
-            })
-            .collect();
-        match self.random.below(14) {
+        let plain: String = name.iter().map(|byte| literal(*byte)).collect();
+        match self.random.below(15) {
             0..=4 => plain,
             5 => "*".to_string(),
             6 => format!("{{{},{plain}}}", self.random.pick(others)),
@@ -181,6 +182,10 @@ impl Grammar<'_> {
             9 => plain + &self.choose(&["*", "{,x}", ""], &["[z-a]", "}", "{", "\\", "[]"]),
             10 => "?".repeat(name.len()),
             11 => format!("*{}", plain.chars().last().unwrap_or('x')),
+            12 => {
+                let stars = 2 + self.random.below(8);
+                stars::pattern(self.random, name, stars)
+            }
             _ => self.random.pick(others).to_string(),
         }
     }

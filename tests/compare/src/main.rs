@@ -7,6 +7,7 @@ mod fuzz;
 mod grammar;
 mod lent;
 mod random;
+mod stars;
 mod tables;
 
 use std::fs;
@@ -25,8 +26,12 @@ const USAGE: &str = "usage: compare --cases < cases
            that gives a decision, or of the first TABLES such tables
        compare --fuzz ROUNDS SEED
            compare them on random and damaged bytes in every argument
+       compare --stars ROUNDS SEED
+           compare them on random patterns with many stars
        compare --bench [TABLE]
-           time them on the tables, or on those of one name
+           time them on the tables, or on those of one name; on all, also as the next
+       compare --bench stars
+           time the call on patterns with many stars, and hold it to the limits of request (iii)
        compare --call TABLE ROUNDS
            only call the library so often on the tables of one name, for a profiler
        compare --tables FOLDER
@@ -47,7 +52,15 @@ fn main() -> ExitCode {
             (Ok(rounds), Ok(seed)) => Ok(counted(fuzz::run(rounds, seed))),
             _ => return wrong_use(),
         },
-        ["--bench"] => Ok(bench::run(None) == 0),
+        ["--stars", rounds, seed] => match (rounds.parse(), seed.parse()) {
+            (Ok(rounds), Ok(seed)) => Ok(counted(stars::run(rounds, seed))),
+            _ => return wrong_use(),
+        },
+        ["--bench", "stars"] => Ok(counted(stars::times())),
+        ["--bench"] => {
+            let wrong = bench::run(None);
+            Ok(counted(stars::times()) && wrong == 0)
+        }
         ["--bench", name] => Ok(bench::run(Some(name)) == 0),
         ["--call", name, rounds] => match rounds.parse() {
             Ok(rounds) => {
