@@ -140,6 +140,7 @@ pub record TakesNot (p : List ℕ) (i b : ℕ) (old new : Budget) : Type 0 where
   pub not-taken : takes token b ≡ false
   pub less : OneLess (length p) old new
 
+-- what a test of the byte b by the token of p at i comes to
 abbrev pub Tests : List ℕ → ℕ → ℕ → Budget → Tested → Type 0
 Tests p i b old (Past k l) = TakesTo p i b k old l
 Tests p i b old (Off l) = TakesNot p i b old l

@@ -103,7 +103,7 @@ pub enum Tried {
     Off(Budget),
     // The name ends before the pattern does: it matches neither here nor at a later byte.
     Short,
-    // The budget is spent. It never comes to that, which is part of the contract of `try_at`.
+    // The budget is spent, and the pattern is said not to match. It never comes to that: the contract of `try_at` has ⊥ here.
     Exhausted,
 }
 
