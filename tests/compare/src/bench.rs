@@ -46,20 +46,28 @@ pub fn run(name: Option<&str>) -> usize {
     wrong
 }
 
-/// The best time of the call alone, in nanoseconds.
-pub fn nanoseconds(asked: &Asked) -> f64 {
-    let mut buffer = asked.buffer.clone();
-    let mut report = asked.report.clone();
-    let rounds = BYTES.div_ceil(asked.table.len());
-    let mut best = f64::INFINITY;
+/// The best times of the call alone in nanoseconds, taken turn by turn.
+pub fn nanoseconds(questions: &[Asked]) -> Vec<f64> {
+    let mut best = vec![f64::INFINITY; questions.len()];
     for _ in 0..TRIES {
-        let begin = Instant::now();
-        for _ in 0..rounds {
-            black_box(call(black_box(asked), &mut buffer, &mut report));
+        for (asked, best) in questions.iter().zip(&mut best) {
+            let mut buffer = asked.buffer.clone();
+            let mut report = asked.report.clone();
+            let time = one_time(asked, || call(black_box(asked), &mut buffer, &mut report));
+            *best = best.min(time);
         }
-        best = best.min(begin.elapsed().as_nanos() as f64 / rounds as f64);
     }
     best
+}
+
+/// The time of what reads the table, in nanoseconds; it is done over and over.
+fn one_time<T>(asked: &Asked, mut read: impl FnMut() -> T) -> f64 {
+    let rounds = BYTES.div_ceil(asked.table.len());
+    let begin = Instant::now();
+    for _ in 0..rounds {
+        black_box(read());
+    }
+    begin.elapsed().as_nanos() as f64 / rounds as f64
 }
 
 /// Call the library so often on the tables with this name, for a profiler; the bytes that it read.
@@ -107,20 +115,14 @@ fn timed(asked: &Asked) -> (f64, f64) {
     };
     let mut buffer = asked.buffer.clone();
     let mut report = asked.report.clone();
-    let rounds = BYTES.div_ceil(asked.table.len());
-    let bytes = (rounds * asked.table.len()) as f64;
+    let bytes = asked.table.len() as f64;
     let mut best = (f64::INFINITY, f64::INFINITY);
     for _ in 0..TRIES {
-        let begin = Instant::now();
-        for _ in 0..rounds {
-            black_box(call(black_box(asked), &mut buffer, &mut report));
-        }
-        best.0 = best.0.min(begin.elapsed().as_nanos() as f64 / bytes);
-        let begin = Instant::now();
-        for _ in 0..rounds {
-            black_box(answer::answer(black_box(&asked.table), &question, &mut buffer));
-        }
-        best.1 = best.1.min(begin.elapsed().as_nanos() as f64 / bytes);
+        let called = one_time(asked, || call(black_box(asked), &mut buffer, &mut report));
+        best.0 = best.0.min(called / bytes);
+        let table = black_box(&asked.table);
+        let answered = one_time(asked, || answer::answer(table, &question, &mut buffer));
+        best.1 = best.1.min(answered / bytes);
     }
     best
 }

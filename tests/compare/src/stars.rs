@@ -202,18 +202,21 @@ pub fn times() -> (u64, u64) {
 fn look() -> (u64, u64) {
     let mut limits = Limits { passed: 0, failed: 0 };
     println!("nine stars on every line of 32 KB, ns a line");
-    let plain = a_line(NO_STAR, 16);
-    for pattern in NINE_STARS {
-        let with = a_line(pattern, 16);
-        let times = with / plain;
-        println!("  {pattern}  16 bytes: {with:6.0}, without {plain:6.0}, {times:5.2} times");
-        limits.at_most("a line with stars beside one without", times, 2.0);
+    let times = a_line(&[NO_STAR, NINE_STARS[0], NINE_STARS[1], NINE_STARS[2]], 16);
+    let plain = times[0];
+    for (pattern, with) in NINE_STARS.iter().zip(&times[1..]) {
+        let ratio = with / plain;
+        println!("  {pattern}  16 bytes: {with:6.0}, without {plain:6.0}, {ratio:5.2} times");
+        limits.at_most("a line with stars beside one without", ratio, 2.0);
     }
-    let one = one_test();
+    let [long, long_plain] = [format!("*{}b", "a".repeat(31)), "x".repeat(33)];
+    let patterns = [&long, &long_plain, NO_STAR, NINE_STARS[0], NINE_STARS[1], NINE_STARS[2]];
+    let times = a_line(&patterns, 256);
+    // 31 bytes that match and one that does not, at each of 225 starts, and 31 at the name's end.
+    let one = (times[0] - times[1]) / (225 * 32 + 31) as f64;
     println!("one test takes {one:.2} ns");
-    let plain = a_line(NO_STAR, 256);
-    for pattern in NINE_STARS {
-        let extra = a_line(pattern, 256) - plain;
+    for (pattern, with) in NINE_STARS.iter().zip(&times[3..]) {
+        let extra = with - times[2];
         let tests = extra / one;
         let most = (pattern.len() * 256) as f64;
         println!(
@@ -229,8 +232,8 @@ fn look() -> (u64, u64) {
         for bytes in [64, 128, 256] {
             let last = if late { "a".repeat(bytes / 4) } else { String::new() };
             let pattern = format!("{}*{last}b", "*a".repeat(8));
-            let plain = a_line(&"x".repeat(pattern.len()), bytes);
-            let taken = (a_line(&pattern, bytes) - plain) / (pattern.len() * bytes) as f64;
+            let times = a_line(&[&pattern, &"x".repeat(pattern.len())], bytes);
+            let taken = (times[0] - times[1]) / (pattern.len() * bytes) as f64;
             println!("  {bytes:3} bytes, a pattern of {:2}: {taken:.3}", pattern.len());
             limits.at_most("the time beside that of all tests", taken, one);
             if !late {
@@ -258,20 +261,16 @@ impl Limits {
     }
 }
 
-/// The time of one line of a full table whose lines all have this command pattern, asked for a
-/// command of so many bytes `a`.
-fn a_line(pattern: &str, bytes: usize) -> f64 {
-    let mut asked = asked(&b"a".repeat(bytes));
-    let line = format!("{pattern} /sbin/setclock ann,bo,t* !tmp auth=y timeout=15 # note\n");
-    let lines = (SIZE - asked.table.len()) / line.len();
-    asked.table.extend(line.repeat(lines).bytes());
-    nanoseconds(&asked) / lines as f64
-}
-
-/// The time of one test of a byte: 31 bytes that match and one that does not, at each of 225 starts,
-/// and 31 more at the name's end.
-fn one_test() -> f64 {
-    let pattern = format!("*{}b", "a".repeat(31));
-    let plain = "x".repeat(pattern.len());
-    (a_line(&pattern, 256) - a_line(&plain, 256)) / (225 * 32 + 31) as f64
+/// For each command pattern the time of one line of a full table whose lines all have it, asked for
+/// a command of so many bytes `a`.
+fn a_line(patterns: &[&str], bytes: usize) -> Vec<f64> {
+    let tables = patterns.iter().map(|pattern| {
+        let mut asked = asked(&b"a".repeat(bytes));
+        let line = format!("{pattern} /sbin/setclock ann,bo,t* !tmp auth=y timeout=15 # note\n");
+        let lines = (SIZE - asked.table.len()) / line.len();
+        asked.table.extend(line.repeat(lines).bytes());
+        (asked, lines as f64)
+    });
+    let (questions, lines): (Vec<Asked>, Vec<f64>) = tables.unzip();
+    nanoseconds(&questions).iter().zip(lines).map(|(time, lines)| time / lines).collect()
 }
