@@ -1,10 +1,8 @@
 -- The laws of the budget of tests (02 (iii)). Assumes nothing.
 use mathlib.Core.Path.{_≡_}
-use mathlib.Core.List.{List}
 use Prim.Native.Nat.{ℕ, _+_, _*_, _-_, _≤_, _<_}
 use native.Mathlib.Nat.{le-mul-of-pos-right}
 use native.Mathlib.Omega.{arith}
-use lib.ListN.{length}
 use Rattle.glob.specs.Contract.{worth, Usable, OneLess, Covers}
 use Rattle.glob.specs.declared.matcher.Budget.{Budget}
 
@@ -36,15 +34,14 @@ spend-row row b g u n h f =
 
 -- ---- the tests of all bytes
 -- at the beginning it is the product of the two lengths
-pub budget-is : (p s : List ℕ) → worth (length p) record { rows = length s; used = 0 } ≡ length p * length s
+pub budget-is : (row n : ℕ) → worth row record { rows = n; used = 0 } ≡ row * n
 unfolding worth
-budget-is p s = omega arith
+budget-is row n = omega arith
 
 pub covers-all : (row n : ℕ) → Covers row (n - 0) record { rows = n; used = 0 }
-unfolding worth
 covers-all row n =
     let k : n - 0 ≡ n = omega arith in
-    record { usable = omega arith; enough = rw k (omega arith) }
+    record { usable = omega arith; enough = rw k (omega (arith, budget-is row n)) }
 
 pub covers-row : (row n : ℕ) (b : Budget) → Covers row n b → 0 < n → row ≤ worth row b
 covers-row row n b c h = go (n - 1) (omega arith)

@@ -8,29 +8,36 @@ use native.Mathlib.Numerals.{add-one}
 use native.Mathlib.Omega.{arith}
 use borrow.Author.Tests.{eq-eqb, ne-eqb, le-leb, lt-leb}
 use lib.Dec.{eqb}
-use lib.ListN.{length, take, drop, getD, length-drop, drop-of-length-le}
+use lib.ListN.{length, drop, getD, length-drop, drop-of-length-le}
 use lib.Seq.{drop-drop}
 use Rattle.text.specs.Lists.{any}
-use Rattle.text.specs.Contract.{lead}
-use Rattle.text.proofs.Laws.{next, both-true, either-no, either-of, either-true, false-of, same-test, pick-of, clash}
+use Rattle.text.proofs.Laws.{next, both-true, both-yes, either-no, either-of, either-true, false-of, same-test, pick-of, clash}
 use Rattle.glob.specs.Set.{inSet}
-use Rattle.glob.specs.Match.{Token, anyRun, anyByte, noByte, thisByte, byteOf, signOf, star, question, backslash, bracket, ordinary, tokens, tails, matchTokens, matches}
-use Rattle.glob.specs.Contract.{worth, Usable, OneLess, Covers, isRun, takes, testsOf, TakesTo, TakesNot, matchesBehind, Stars, Fails, FailsOn}
+use Rattle.glob.specs.Match.{Token, anyRun, anyByte, noByte, thisByte, byteOf, signOf, star, tokens, tails, matchTokens, matches}
+use Rattle.glob.specs.Contract.{worth, Usable, OneLess, Covers, isRun, takes, testsOf, testsAt, TakesTo, TakesNot, matchesBehind, Stars, Fails, FailsOn}
 use Rattle.glob.specs.declared.matcher.Budget.{Budget}
 use Rattle.glob.proofs.BudgetLaws.{covers-row, covers-less, covers-on}
-use Rattle.glob.proofs.MatchLaws.{is-star, not-star, at-end, star-at, question-at, ordinary-at, escape-last, escape-at, set-open, set-at, none-left}
+use Rattle.glob.proofs.MatchLaws.{is-star, not-star, at-end, star-at, none-left}
 
 -- ---- a token that is no star
+byte-takes : (c b : ℕ) → takes (thisByte c) b ≡ eqb c b
+unfolding takes matchTokens
+byte-takes c b = both-yes (eqb c b)
+
+set-takes : (t : List ℕ) (b : ℕ) → takes (byteOf t) b ≡ inSet t b
+unfolding takes matchTokens
+set-takes t b = both-yes (inSet t b)
+
 token-matches : (t : Token) (q : List Token) (b : ℕ) (s : List ℕ) → isRun t ≡ false → matchTokens (t ∷ q) (b ∷ s) ≡ takes t b && matchTokens q s
-unfolding matchTokens
+unfolding matchTokens isRun takes any tails
 token-matches anyRun q b s e = clash cc
 token-matches anyByte q b s e = refl
 token-matches noByte q b s e = refl
-token-matches (thisByte c) q b s e = refl
-token-matches (byteOf t) q b s e = refl
+token-matches (thisByte c) q b s e = rw (both-yes (eqb c b))
+token-matches (byteOf t) q b s e = rw (both-yes (inSet t b))
 
 token-none : (t : Token) (q : List Token) → isRun t ≡ false → matchTokens (t ∷ q) [] ≡ false
-unfolding matchTokens
+unfolding matchTokens isRun any tails
 token-none anyRun q e = clash cc
 token-none anyByte q e = refl
 token-none noByte q e = refl
@@ -47,39 +54,31 @@ module _ (t : Token) (q : List Token) (b : ℕ) (s : List ℕ) (n : isRun t ≡ 
   tests-off e = rw (n, e)
 
 -- ---- the token at a place, and a byte
-module _ (p : List ℕ) (i b : ℕ) (old new : Budget) (l : i < length p) (u : OneLess (length p) old new) where
-  pub question-takes : signOf (getD p i 0) ≡ question → TakesTo p i b (i + 1) old new
-  question-takes e = record { token = anyByte; ahead = omega arith; high = omega arith; here = question-at p i l e; no-star = refl; taken = refl; less = u }
+module _ {p : List ℕ} {i b : ℕ} {old new : Budget} (u : OneLess (length p) old new) where
+  pub no-byte : tokens (drop i p) ≡ noByte ∷ [] → TakesNot p i b old new
+  unfolding isRun takes
+  no-byte e = record { token = noByte; rest = []; here = e; no-star = refl; not-taken = refl; less = u }
 
-  pub ordinary-takes : signOf (getD p i 0) ≡ ordinary → getD p i 0 ≡ b → TakesTo p i b (i + 1) old new
-  ordinary-takes e h = record { token = thisByte (getD p i 0); ahead = omega arith; high = omega arith; here = ordinary-at p i l e; no-star = refl; taken = eq-eqb _ _ h; less = u }
+  module _ {k : ℕ} (l : i < k) (h : k ≤ length p) where
+    pub any-byte : tokens (drop i p) ≡ anyByte ∷ tokens (drop k p) → TakesTo p i b k old new
+    unfolding isRun takes
+    any-byte e = record { token = anyByte; ahead = l; high = h; here = e; no-star = refl; taken = refl; less = u }
 
-  pub ordinary-not : signOf (getD p i 0) ≡ ordinary → (getD p i 0 ≡ b → ⊥) → TakesNot p i b old new
-  ordinary-not e h = record { token = thisByte (getD p i 0); rest = tokens (drop (i + 1) p); here = ordinary-at p i l e; no-star = refl; not-taken = ne-eqb _ _ h; less = u }
+    pub this-byte : (c : ℕ) → tokens (drop i p) ≡ thisByte c ∷ tokens (drop k p) → c ≡ b → TakesTo p i b k old new
+    unfolding isRun
+    this-byte c e f = record { token = thisByte c; ahead = l; high = h; here = e; no-star = refl; taken = byte-takes c b ∙ eq-eqb _ _ f; less = u }
 
-  module _ (e : signOf (getD p i 0) ≡ backslash) where
-    pub escape-end : length p ≤ i + 1 → TakesNot p i b old new
-    escape-end h = record { token = noByte; rest = []; here = escape-last p i l e h; no-star = refl; not-taken = refl; less = u }
+    pub set-byte : (t : List ℕ) → tokens (drop i p) ≡ byteOf t ∷ tokens (drop k p) → inSet t b ≡ true → TakesTo p i b k old new
+    unfolding isRun
+    set-byte t e f = record { token = byteOf t; ahead = l; high = h; here = e; no-star = refl; taken = set-takes t b ∙ f; less = u }
 
-    pub escape-takes : i + 1 < length p → getD p (i + 1) 0 ≡ b → TakesTo p i b (i + 1 + 1) old new
-    escape-takes g h = record { token = thisByte (getD p (i + 1) 0); ahead = omega arith; high = omega arith; here = escape-at p i l e g; no-star = refl; taken = eq-eqb _ _ h; less = u }
+  pub other-byte : (c : ℕ) (q : List Token) → tokens (drop i p) ≡ thisByte c ∷ q → (c ≡ b → ⊥) → TakesNot p i b old new
+  unfolding isRun
+  other-byte c q e f = record { token = thisByte c; rest = q; here = e; no-star = refl; not-taken = byte-takes c b ∙ ne-eqb _ _ f; less = u }
 
-    pub escape-not : i + 1 < length p → (getD p (i + 1) 0 ≡ b → ⊥) → TakesNot p i b old new
-    escape-not g h = record { token = thisByte (getD p (i + 1) 0); rest = tokens (drop (i + 1 + 1) p); here = escape-at p i l e g; no-star = refl; not-taken = ne-eqb _ _ h; less = u }
-
-  module _ (e : ℕ) (o : signOf (getD p i 0) ≡ bracket) (k : e ≡ i + 1 + lead 93 (drop (i + 1) p)) where
-    pub set-end : length p ≤ e → TakesNot p i b old new
-    set-end h = record { token = noByte; rest = []; here = set-open p i l e o k h; no-star = refl; not-taken = refl; less = u }
-
-    pub set-takes : e < length p → inSet (take (e - (i + 1)) (drop (i + 1) p)) b ≡ true → TakesTo p i b (e + 1) old new
-    set-takes h f = record { token = byteOf (take (e - (i + 1)) (drop (i + 1) p)); ahead = omega arith; high = omega arith; here = set-at p i l e o k h; no-star = refl; taken = f; less = u }
-
-    pub set-not : e < length p → inSet (take (e - (i + 1)) (drop (i + 1) p)) b ≡ false → TakesNot p i b old new
-    set-not h f = record { token = byteOf (take (e - (i + 1)) (drop (i + 1) p)); rest = tokens (drop (e + 1) p); here = set-at p i l e o k h; no-star = refl; not-taken = f; less = u }
-
--- the tests of trying p from i on at the name's byte j
-abbrev testsAt : List ℕ → ℕ → List ℕ → ℕ → ℕ
-testsAt p i s j = testsOf (tokens (drop i p)) (drop j s)
+  pub outside : (t : List ℕ) (q : List Token) → tokens (drop i p) ≡ byteOf t ∷ q → inSet t b ≡ false → TakesNot p i b old new
+  unfolding isRun
+  outside t q e f = record { token = byteOf t; rest = q; here = e; no-star = refl; not-taken = set-takes t b ∙ f; less = u }
 
 -- ---- a star behind which nothing so short matches
 behind-none : (q : List ℕ) (n : ℕ) → ((t : List ℕ) → length t ≤ n → matches q t ≡ false) → (s : List ℕ) → length s ≤ n → matchesBehind q s ≡ false
@@ -128,7 +127,7 @@ module _ {p : List ℕ} {i : ℕ} {s : List ℕ} {j : ℕ} {b : Budget} {at to :
         more = omega (arith, w .begun);
         usable = w .usable;
         uses = omega (arith, w .spent, w .tests, w .begun, z);
-        spent = omega (arith, w .spent, w .pace, w .high, w .begun);
+        few = omega (arith, w .tests, w .pace, w .high, w .begun, z);
         same = sym (lt-leb _ _ g) ∙ at-end p s at to h (w .most) ∙ w .same;
       }
 
@@ -144,7 +143,7 @@ module _ {p : List ℕ} {i : ℕ} {s : List ℕ} {j : ℕ} {b : Budget} {at to :
           most = w .most;
           usable = w .usable;
           uses = omega (arith, w .spent, w .tests, w .begun, z);
-          spent = w .spent;
+          tests = omega (arith, w .tests, z);
           same = behind-tokens p at (drop to s) h (is-star e) ∙ w .same;
           later = λ t m. behind-tokens p at (drop (to - j) t) h (is-star e) ∙ w .later t m;
         }
@@ -168,7 +167,7 @@ module _ {p : List ℕ} {i : ℕ} {s : List ℕ} {j : ℕ} {b : Budget} {at to :
           more = omega (arith, w .begun);
           usable = f .less .usable;
           uses = omega (arith, w .spent, w .tests, w .begun, f .less .spent, z);
-          spent = omega (arith, w .spent, w .pace, w .begun, f .less .spent);
+          few = omega (arith, w .tests, w .pace, w .begun, z);
           same = sym m ∙ w .same;
         }
 
@@ -274,7 +273,7 @@ module _ {p : List ℕ} {i : ℕ} {s : List ℕ} {j : ℕ} where
         sym (rw (drop-of-length-le p h) (behind-end (drop m s))) ∙ star-sought
 
     pub covers-star : Covers (length p) (length s - j) b → Covers (length p) (length s - m) l
-    covers-star c = covers-on (length p) (length s - j) (length s - m) (m - j) b l (omega (arith, w .low, w .most)) (omega (arith, w .ahead, w .high)) (w .usable) c (omega (arith, w .spent, w .low))
+    covers-star c = covers-on (length p) (length s - j) (length s - m) (m - j) b l (omega (arith, w .low, w .most)) (omega (arith, w .ahead, w .high)) (w .usable) c (omega (arith, w .uses, w .tests))
 
   module _ {b l : Budget} (w : Fails p i s j b l) where
     behind-next : matchesBehind (drop i p) (drop (j + 1) s) ≡ matchesBehind (drop i p) (drop j s)
@@ -291,4 +290,4 @@ module _ {p : List ℕ} {i : ℕ} {s : List ℕ} {j : ℕ} where
     sought-fails e = w .same ∙ sym (sought-here i (drop i p) (drop j s) e)
 
     pub covers-next : Covers (length p) (length s - j) b → Covers (length p) (length s - (j + 1)) l
-    covers-next c = covers-less (length p) (length s - j) (length s - (j + 1)) b l (omega (arith, w .more)) (w .usable) c (w .spent)
+    covers-next c = covers-less (length p) (length s - j) (length s - (j + 1)) b l (omega (arith, w .more)) (w .usable) c (omega (arith, w .uses, w .few))

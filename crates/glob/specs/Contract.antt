@@ -4,12 +4,11 @@ use mathlib.Core.Path.{_≡_}
 use mathlib.Core.Bool.{Bool, true, false, cond}
 use mathlib.Core.List.{List, [], _∷_}
 use mathlib.Core.Option.{Option, none, some}
-use lib.Dec.{eqb}
 use lib.ListN.{length, drop, take, getD}
 use Rattle.text.specs.Class.{range}
 use Rattle.text.specs.Lists.{has, any}
-use Rattle.glob.specs.Set.{ranges, inSet}
-use Rattle.glob.specs.Match.{Token, anyRun, anyByte, noByte, thisByte, byteOf, tokens, tails, matches}
+use Rattle.glob.specs.Set.{ranges}
+use Rattle.glob.specs.Match.{Token, tokens, tails, matchTokens, matches}
 use Rattle.glob.specs.Alternative.{Alternative, partsOf, alternativeOf}
 use Rattle.glob.specs.declared.alternative.ByteContext.{ByteContext}
 use Rattle.glob.specs.declared.alternative.ByteContext.the-variants.{Free}
@@ -95,21 +94,15 @@ pub record Covers (row bytes : ℕ) (b : Budget) : Type 0 where
   pub usable : Usable row b
   pub enough : bytes * row ≤ worth row b
 
--- whether a token is a star
-abbrev pub isRun : Token → Bool
-isRun anyRun = true
-isRun anyByte = false
-isRun noByte = false
-isRun (thisByte c) = false
-isRun (byteOf t) = false
+-- a star is the one token that needs no byte
+unfoldable pub isRun : Token → Bool
+unfolding matchTokens
+isRun t = matchTokens (t ∷ []) []
 
--- whether a token that is no star takes a byte
-abbrev pub takes : Token → ℕ → Bool
-takes anyRun b = false
-takes anyByte b = true
-takes noByte b = false
-takes (thisByte c) b = eqb c b
-takes (byteOf t) b = inSet t b
+-- whether a token takes a byte
+unfoldable pub takes : Token → ℕ → Bool
+unfolding matchTokens
+takes t b = matchTokens (t ∷ []) (b ∷ [])
 
 -- one test, where there is a byte, and those behind it where the byte is taken
 abbrev pub testsBy : Token → (List ℕ → ℕ) → List ℕ → ℕ
@@ -118,6 +111,7 @@ testsBy t k (b ∷ s) = suc (cond (takes t b) (k s) 0)
 
 -- the tests of bytes that trying the tokens at a name makes, up to the next star
 unfoldable pub testsOf : List Token → List ℕ → ℕ
+unfolding isRun takes
 testsOf [] s = 0
 testsOf (t ∷ p) s = cond (isRun t) 0 (testsBy t (testsOf p) s)
 
@@ -151,9 +145,13 @@ unfoldable pub matchesBehind : List ℕ → List ℕ → Bool
 unfolding any tails matches
 matchesBehind p s = any (matches p) (tails s)
 
--- the budget has lost what trying p from i on at the name's byte j uses
+-- the tests of trying p from i on at the name's byte j
+abbrev pub testsAt : List ℕ → ℕ → List ℕ → ℕ → ℕ
+testsAt p i s j = testsOf (tokens (drop i p)) (drop j s)
+
+-- the budget has lost those tests
 abbrev pub Uses : List ℕ → ℕ → List ℕ → ℕ → Budget → Budget → Type 0
-Uses p i s j old new = worth (length p) old ≡ worth (length p) new + testsOf (tokens (drop i p)) (drop j s)
+Uses p i s j old new = worth (length p) old ≡ worth (length p) new + testsAt p i s j
 
 -- p from i on matches s from j on up to a star: k is behind it, and m behind the bytes taken, each by one test
 pub record Stars (p : List ℕ) (i : ℕ) (s : List ℕ) (j k m : ℕ) (old new : Budget) : Type 0 where
@@ -163,17 +161,17 @@ pub record Stars (p : List ℕ) (i : ℕ) (s : List ℕ) (j k m : ℕ) (old new 
   pub most : m ≤ length s
   pub usable : Usable (length p) new
   pub uses : Uses p i s j old new
-  pub spent : worth (length p) new + m ≡ worth (length p) old + j
+  pub tests : testsAt p i s j + j ≡ m
   pub same : matchesBehind (drop k p) (drop m s) ≡ matches (drop i p) (drop j s)
   -- wherever else p from i on matches, so does what follows the star, behind as many bytes
   pub later : (t : List ℕ) → matches (drop i p) t ≡ true → matchesBehind (drop k p) (drop (m - j) t) ≡ true
 
--- it does not match there, before the name's end, and not more tests were used than the pattern has bytes
+-- it does not match there, before the name's end, by not more tests than the pattern has bytes
 pub record Fails (p : List ℕ) (i : ℕ) (s : List ℕ) (j : ℕ) (old new : Budget) : Type 0 where
   pub more : j < length s
   pub usable : Usable (length p) new
   pub uses : Uses p i s j old new
-  pub spent : worth (length p) old ≤ worth (length p) new + length p
+  pub few : testsAt p i s j ≤ length p
   pub same : false ≡ matches (drop i p) (drop j s)
 
 -- it does not match there, nor at any later byte

@@ -1,7 +1,8 @@
 use mathlib.Core.Path.{sym, _∙_}
+use native.Mathlib.Omega.{arith}
 use borrow.Author.Needs.{needs}
-use Rattle.glob.proofs.MatchLaws.{is-question, is-backslash, is-bracket, is-ordinary}
-use Rattle.glob.proofs.SearchLaws.{question-takes, ordinary-takes, ordinary-not, escape-end, escape-takes, escape-not, set-end, set-takes, set-not}
+use Rattle.glob.proofs.MatchLaws.{is-question, is-backslash, is-bracket, is-ordinary, question-at, ordinary-at, escape-last, escape-at, set-open, set-at}
+use Rattle.glob.proofs.SearchLaws.{no-byte, any-byte, this-byte, set-byte, other-byte, outside}
 use Rattle.glob.proofs.matcher.test_byte.Statement.{statement}
 use Rattle.glob.proofs.matcher.test_byte.Tie as tie
 
@@ -18,10 +19,10 @@ add-k : tie.Need-add-k
 add-k c = search needs
 
 returns : tie.Need-returns
-returns c = question-takes _ _ _ _ _ (c .before .before .before .before .before .before .before .pre .0) (rw (c .before .before .before .left .given .1) at (c .before .before .before .before .before .spend .ensures)) (is-question (c .if1 .taken))
+returns c = any-byte (rw (c .before .before .before .left .given .1) at (c .before .before .before .before .before .spend .ensures)) (omega arith) (omega arith) (question-at _ _ (c .before .before .before .before .before .before .before .pre .0) (is-question (c .if1 .taken)))
 
 returns-2 : tie.Need-returns-2
-returns-2 c = escape-end _ _ _ _ _ (c .before .before .before .before .before .before .before .before .before .pre .0) (rw (c .before .before .before .before .before .left .given .1) at (c .before .before .before .before .before .before .before .spend .ensures)) (is-backslash (c .before .if2 .taken)) (c .if3 .taken)
+returns-2 c = no-byte (rw (c .before .before .before .before .before .left .given .1) at (c .before .before .before .before .before .before .before .spend .ensures)) (escape-last _ _ (c .before .before .before .before .before .before .before .before .before .pre .0) (is-backslash (c .before .if2 .taken)) (c .if3 .taken))
 
 shared-slice-read-if4 : tie.Need-shared-slice-read-if4
 shared-slice-read-if4 c = search needs
@@ -30,16 +31,16 @@ add-t19 : tie.Need-add-t19
 add-t19 c = search needs
 
 returns-3 : tie.Need-returns-3
-returns-3 c = escape-takes _ _ _ _ _ (c .before .before .before .before .before .before .before .before .before .before .before .pre .0) (rw (c .before .before .before .before .before .before .before .left .given .1) at (c .before .before .before .before .before .before .before .before .before .spend .ensures)) (is-backslash (c .before .before .before .if2 .taken)) (c .before .before .if3 .left) (c .if4 .taken)
+returns-3 c = this-byte (rw (c .before .before .before .before .before .before .before .left .given .1) at (c .before .before .before .before .before .before .before .before .before .spend .ensures)) (omega arith) (omega arith) _ (escape-at _ _ (c .before .before .before .before .before .before .before .before .before .before .before .pre .0) (is-backslash (c .before .before .before .if2 .taken)) (c .before .before .if3 .left)) (c .if4 .taken)
 
 returns-4 : tie.Need-returns-4
-returns-4 c = escape-not _ _ _ _ _ (c .before .before .before .before .before .before .before .before .before .before .before .pre .0) (rw (c .before .before .before .before .before .before .before .left .given .1) at (c .before .before .before .before .before .before .before .before .before .spend .ensures)) (is-backslash (c .before .before .before .if2 .taken)) (c .before .before .if3 .left) (c .if4 .left)
+returns-4 c = other-byte (rw (c .before .before .before .before .before .before .before .left .given .1) at (c .before .before .before .before .before .before .before .before .before .spend .ensures)) _ _ (escape-at _ _ (c .before .before .before .before .before .before .before .before .before .before .before .pre .0) (is-backslash (c .before .before .before .if2 .taken)) (c .before .before .if3 .left)) (c .if4 .left)
 
 close-requires : tie.Need-close-requires
 close-requires c κs = search needs
 
 returns-5 : tie.Need-returns-5
-returns-5 c = set-end _ _ _ _ _ (c .before .before .before .before .before .before .before .before .before .before .before .pre .0) (rw (c .before .before .before .before .before .before .before .left .given .1) at (c .before .before .before .before .before .before .before .before .before .spend .ensures)) _ (is-bracket (c .before .before .if5 .taken)) (c .before .close .ensures .0) (c .if6 .taken)
+returns-5 c = no-byte (rw (c .before .before .before .before .before .before .before .left .given .1) at (c .before .before .before .before .before .before .before .before .before .spend .ensures)) (set-open _ _ (c .before .before .before .before .before .before .before .before .before .before .before .pre .0) _ (is-bracket (c .before .before .if5 .taken)) (c .before .close .ensures .0) (c .if6 .taken))
 
 sub-in-set : tie.Need-sub-in-set
 sub-in-set c = search needs
@@ -57,19 +58,19 @@ add-t26 : tie.Need-add-t26
 add-t26 c = search needs
 
 returns-6 : tie.Need-returns-6
-returns-6 c = set-takes _ _ _ _ _ (c .before .before .before .before .before .before .before .before .before .before .before .before .before .before .pre .0) (rw (c .before .before .before .before .before .before .before .before .before .before .left .given .1) at (c .before .before .before .before .before .before .before .before .before .before .before .before .spend .ensures)) _ (is-bracket (c .before .before .before .before .before .if5 .taken)) (c .before .before .before .before .close .ensures .0) (c .before .before .before .if6 .left) (sym (c .before .in-set .ensures) ∙ (c .if7 .taken))
+returns-6 c = set-byte (rw (c .before .before .before .before .before .before .before .before .before .before .left .given .1) at (c .before .before .before .before .before .before .before .before .before .before .before .before .spend .ensures)) (omega arith) (omega arith) _ (set-at _ _ (c .before .before .before .before .before .before .before .before .before .before .before .before .before .before .pre .0) _ (is-bracket (c .before .before .before .before .before .if5 .taken)) (c .before .before .before .before .close .ensures .0) (c .before .before .before .if6 .left)) (sym (c .before .in-set .ensures) ∙ (c .if7 .taken))
 
 returns-7 : tie.Need-returns-7
-returns-7 c = set-not _ _ _ _ _ (c .before .before .before .before .before .before .before .before .before .before .before .before .before .before .pre .0) (rw (c .before .before .before .before .before .before .before .before .before .before .left .given .1) at (c .before .before .before .before .before .before .before .before .before .before .before .before .spend .ensures)) _ (is-bracket (c .before .before .before .before .before .if5 .taken)) (c .before .before .before .before .close .ensures .0) (c .before .before .before .if6 .left) (sym (c .before .in-set .ensures) ∙ (c .if7 .left))
+returns-7 c = outside (rw (c .before .before .before .before .before .before .before .before .before .before .left .given .1) at (c .before .before .before .before .before .before .before .before .before .before .before .before .spend .ensures)) _ _ (set-at _ _ (c .before .before .before .before .before .before .before .before .before .before .before .before .before .before .pre .0) _ (is-bracket (c .before .before .before .before .before .if5 .taken)) (c .before .before .before .before .close .ensures .0) (c .before .before .before .if6 .left)) (sym (c .before .in-set .ensures) ∙ (c .if7 .left))
 
 returns-8 : tie.Need-returns-8
-returns-8 c = ordinary-takes _ _ _ _ _ (c .before .before .before .before .before .before .before .before .before .before .pre .0) (rw (c .before .before .before .before .before .before .left .given .1) at (c .before .before .before .before .before .before .before .before .spend .ensures)) (is-ordinary (c .before .before .before .before .before .before .before .before .before .before .pre .1) (c .before .before .before .if1 .left) (c .before .before .if2 .left) (c .before .if5 .left)) (c .if8 .taken)
+returns-8 c = this-byte (rw (c .before .before .before .before .before .before .left .given .1) at (c .before .before .before .before .before .before .before .before .spend .ensures)) (omega arith) (omega arith) _ (ordinary-at _ _ (c .before .before .before .before .before .before .before .before .before .before .pre .0) (is-ordinary (c .before .before .before .before .before .before .before .before .before .before .pre .1) (c .before .before .before .if1 .left) (c .before .before .if2 .left) (c .before .if5 .left))) (c .if8 .taken)
 
 enum-told : tie.Need-enum-told
 enum-told c = search needs
 
 returns-9 : tie.Need-returns-9
-returns-9 c = ordinary-not _ _ _ _ _ (c .before .before .before .before .before .before .before .before .before .before .pre .0) (rw (c .before .before .before .before .before .before .left .given .1) at (c .before .before .before .before .before .before .before .before .spend .ensures)) (is-ordinary (c .before .before .before .before .before .before .before .before .before .before .pre .1) (c .before .before .before .if1 .left) (c .before .before .if2 .left) (c .before .if5 .left)) (c .if8 .left)
+returns-9 c = other-byte (rw (c .before .before .before .before .before .before .left .given .1) at (c .before .before .before .before .before .before .before .before .spend .ensures)) _ _ (ordinary-at _ _ (c .before .before .before .before .before .before .before .before .before .before .pre .0) (is-ordinary (c .before .before .before .before .before .before .before .before .before .before .pre .1) (c .before .before .before .if1 .left) (c .before .before .if2 .left) (c .before .if5 .left))) (c .if8 .left)
 
 returns-10 : tie.Need-returns-10
 returns-10 c = rw (c .enum-told .given .1) at (c .before .before .spend .ensures)
