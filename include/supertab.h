@@ -1,7 +1,8 @@
 /* supertab.h: who may run which command, from a rule table in the style of super.tab.
  *
- * One function: it takes a table, a question and two lent buffers, and gives a numbered answer. It keeps nothing between
- * calls, needs no heap and may be called from several threads at once. Link libsupertab_c.a.
+ * supertab_answer takes a table, a question and two lent buffers, and gives a numbered answer. supertab_record_write
+ * packs such an answer into the eight bytes of a log record, supertab_record_read reads one back. They keep nothing
+ * between calls, need no heap and may be called from several threads at once. Link libsupertab_c.a.
  *
  * For C11 and for C++. The manual page supertab(1) has the rules of a table in brief.
  */
@@ -185,6 +186,76 @@ uint8_t supertab_answer(const uint8_t *table, size_t table_length,
                         const uint8_t *args, size_t args_length,
                         uint8_t *buffer, size_t buffer_length,
                         int64_t *report, size_t report_length);
+
+/* The result of the two functions below. */
+enum {
+    /* The record was written, or read. */
+    SUPERTAB_RECORD_DONE = 0,
+    /* The record is of another version than 1. */
+    SUPERTAB_RECORD_VERSION = 1,
+    /* The answer's number is none of 0 to 5 and 11 to 23. */
+    SUPERTAB_RECORD_NUMBER = 2,
+    /* The minute of the week is above 10,079. */
+    SUPERTAB_RECORD_MINUTE = 3,
+    /* There are not eight bytes. */
+    SUPERTAB_RECORD_BYTES = 4,
+    /* There are fewer than SUPERTAB_FIELDS_LENGTH numbers for the fields: nothing was looked at, nothing was written. */
+    SUPERTAB_RECORD_SMALL_FIELDS = 255
+};
+
+enum {
+    /* The bytes of a record. */
+    SUPERTAB_RECORD_LENGTH = 8,
+    /* The fewest numbers that are lent for the fields. */
+    SUPERTAB_FIELDS_LENGTH = 6
+};
+
+/* The fields of a record that was read, by their index. */
+enum {
+    /* The answer, 0 to 5 or 11 to 23. */
+    SUPERTAB_FIELD_NUMBER = 0,
+    /* The deciding line, 0 to 65,535. */
+    SUPERTAB_FIELD_LINE = 1,
+    /* The minute of the week, 0 to 10,079. */
+    SUPERTAB_FIELD_MINUTE = 2,
+    /* 1 where auth=y was in force. */
+    SUPERTAB_FIELD_AUTH = 3,
+    /* 0 where the user had never given the password, else 1; and the minutes since then, from -16,777,215 to 16,777,215,
+     * which are 0 where the one before is 0. */
+    SUPERTAB_FIELD_AUTHENTICATED = 4,
+    SUPERTAB_FIELD_AGE = 5
+};
+
+/* Packs an answer into the eight bytes of a log record.
+ *
+ *   number         the answer, as supertab_answer gave it; 10 has no record
+ *   line           the deciding line, report[SUPERTAB_REPORT_LINE_OR_PLACE]; stored as 0 for 2 and for refusals
+ *   minute         the minute of the week, as it was asked
+ *   auth           report[SUPERTAB_REPORT_AUTH]; stored as false for all answers but 0 and 1
+ *   authenticated  as it was asked
+ *   age            as it was asked; a size above 16,777,215 is stored as that
+ *   record         exactly 8 bytes
+ *
+ * The bits, most significant first: version 3 (1), answer 5, line 16, minute 14, auth 1, age below zero 1, size of the
+ * age 24; "never" is the sign with size 0.
+ *
+ * The result is 0, or where several apply the first of 4, 2, 3. A record that is refused leaves the bytes as they were.
+ */
+uint8_t supertab_record_write(uint8_t number, uint16_t line, uint32_t minute, bool auth,
+                              bool authenticated, int32_t age,
+                              uint8_t *record, size_t record_length);
+
+/* Reads a log record.
+ *
+ *   record         exactly 8 bytes
+ *   fields         at least 6 numbers, which overlap no byte of the record. Only result 0 writes the first 6; later
+ *                  numbers stay.
+ *
+ * The result is 0, or where several apply the first of 255, 4, 1, 2, 3: a record that is refused shows nothing. The
+ * bits are told as they stand, a line or auth beside an answer that has none too.
+ */
+uint8_t supertab_record_read(const uint8_t *record, size_t record_length,
+                             int64_t *fields, size_t fields_length);
 
 #ifdef __cplusplus
 }

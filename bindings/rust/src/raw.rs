@@ -1,5 +1,6 @@
-//! The function of the static library as it stands in `include/supertab.h`, for callers who lend
-//! their own buffers. [`crate::answer`] is the safe way to call it.
+//! The functions of the static library as they stand in `include/supertab.h`, for callers who lend
+//! their own buffers. [`crate::answer`], [`crate::write_record`] and [`crate::read_record`] are the
+//! safe ways to call them.
 
 /// The fewest bytes of the answer buffer.
 pub const BUFFER_LENGTH: usize = 2_048;
@@ -26,6 +27,25 @@ pub mod report {
     pub const GID_END: usize = 11;
     pub const EGID_END: usize = 12;
     pub const CAUSE: usize = 21;
+}
+
+/// The bytes of a log record.
+pub const RECORD_LENGTH: usize = 8;
+
+/// The fewest numbers that are lent for the fields of a record.
+pub const FIELDS_LENGTH: usize = 6;
+
+/// The result of reading a record for fewer numbers.
+pub const SMALL_FIELDS: u8 = 255;
+
+/// Indices of the fields of a record; `include/supertab.h` says what each number means.
+pub mod field {
+    pub const NUMBER: usize = 0;
+    pub const LINE: usize = 1;
+    pub const MINUTE: usize = 2;
+    pub const AUTH: usize = 3;
+    pub const AUTHENTICATED: usize = 4;
+    pub const AGE: usize = 5;
 }
 
 extern "C" {
@@ -55,5 +75,34 @@ extern "C" {
         buffer_length: usize,
         report: *mut i64,
         report_length: usize,
+    ) -> u8;
+
+    /// Packs an answer into the eight bytes of a log record, as `include/supertab.h` says.
+    ///
+    /// # Safety
+    ///
+    /// `record` may be written, is valid for `record_length` bytes and not null, also for none.
+    pub fn supertab_record_write(
+        number: u8,
+        line: u16,
+        minute: u32,
+        auth: bool,
+        authenticated: bool,
+        age: i32,
+        record: *mut u8,
+        record_length: usize,
+    ) -> u8;
+
+    /// Reads a log record, as `include/supertab.h` says.
+    ///
+    /// # Safety
+    ///
+    /// Each pointer is valid for the number of elements behind it and not null, also for none;
+    /// `fields` may be written and overlaps no byte of the record.
+    pub fn supertab_record_read(
+        record: *const u8,
+        record_length: usize,
+        fields: *mut i64,
+        fields_length: usize,
     ) -> u8;
 }
