@@ -13,8 +13,7 @@ use lib.Seq.{take-nil}
 use Rattle.text.specs.Bytes.{bytes}
 use Rattle.text.proofs.Laws.{take-min}
 use Rattle.fault.specs.Fault.{numberOf}
-use Rattle.fault.specs.declared.Cause.{Cause}
-use Rattle.fault.specs.declared.Cause.the-variants.{LineLength, Indent, OpenQuote, FieldCount, Variable, FieldLength, Pattern, PatternSize, NameLength, TextLength, IdLength, IfDepth, Alternative, TimeItem, OptionName, OptionValue, PatternKind, EntryTooEarly, ColonWord, DefineName, Operator, LatePair, Path, SurplusField, MissingPart, OptionTwice, TooManyNames}
+use Rattle.fault.proofs.Numbers.{cause-number}
 use Rattle.answer.specs.declared.Granted.{Granted}
 use Rattle.answer.specs.declared.Answer.{Answer}
 use Rattle.answer.specs.declared.Answer.the-variants.{Permit, Password, NoEntry, StoppedByNargs, StoppedByArgument, StoppedByPath, MalformedQuestion, LongTable, RefusedByte, CutShort, RefusedLine, SmallBuffer}
@@ -98,36 +97,6 @@ textFor number b g place =
     (cond (leb number 5) (cond (eqb number 2) (bytes "none\n") (stopText number place))
     (refusalText number place))
 
-pub cause-number : (c : Cause) → (14 ≤ numberOf c) × (numberOf c ≤ 18)
-unfolding numberOf
-cause-number LineLength = (omega arith, omega arith)
-cause-number Indent = (omega arith, omega arith)
-cause-number OpenQuote = (omega arith, omega arith)
-cause-number FieldCount = (omega arith, omega arith)
-cause-number Variable = (omega arith, omega arith)
-cause-number FieldLength = (omega arith, omega arith)
-cause-number Pattern = (omega arith, omega arith)
-cause-number PatternSize = (omega arith, omega arith)
-cause-number NameLength = (omega arith, omega arith)
-cause-number TextLength = (omega arith, omega arith)
-cause-number IdLength = (omega arith, omega arith)
-cause-number IfDepth = (omega arith, omega arith)
-cause-number Alternative = (omega arith, omega arith)
-cause-number TimeItem = (omega arith, omega arith)
-cause-number OptionName = (omega arith, omega arith)
-cause-number OptionValue = (omega arith, omega arith)
-cause-number PatternKind = (omega arith, omega arith)
-cause-number EntryTooEarly = (omega arith, omega arith)
-cause-number ColonWord = (omega arith, omega arith)
-cause-number DefineName = (omega arith, omega arith)
-cause-number Operator = (omega arith, omega arith)
-cause-number LatePair = (omega arith, omega arith)
-cause-number Path = (omega arith, omega arith)
-cause-number SurplusField = (omega arith, omega arith)
-cause-number MissingPart = (omega arith, omega arith)
-cause-number OptionTwice = (omega arith, omega arith)
-cause-number TooManyNames = (omega arith, omega arith)
-
 by-number : (a : Answer) (b : List ℕ) → printed (toldOf a b) ≡ textFor (toldOf a b .number) b (grantBeside a) (numberBeside a)
 unfolding printed toldOf
 by-number (Permit g) b = refl
@@ -146,22 +115,6 @@ by-number (RefusedLine c p) b =
     let j : 5 < numberOf c = omega arith in
     rw (lt-leb (numberOf c) 1 h, lt-leb (numberOf c) 5 j)
 by-number SmallBuffer b = refl
-
--- "0 to 5 are decisions, 10 to 18 refusals"
-numbers : (a : Answer) (b : List ℕ) → (toldOf a b .number ≤ 5) ⊎ ((10 ≤ toldOf a b .number) × (toldOf a b .number ≤ 18))
-unfolding toldOf
-numbers (Permit g) b = inl (omega arith)
-numbers (Password g) b = inl (omega arith)
-numbers NoEntry b = inl (omega arith)
-numbers (StoppedByNargs l) b = inl (omega arith)
-numbers (StoppedByArgument l) b = inl (omega arith)
-numbers (StoppedByPath l) b = inl (omega arith)
-numbers MalformedQuestion b = inr (omega arith, omega arith)
-numbers LongTable b = inr (omega arith, omega arith)
-numbers (RefusedByte p) b = inr (omega arith, omega arith)
-numbers (CutShort p) b = inr (omega arith, omega arith)
-numbers (RefusedLine c p) b = let k = cause-number c in inr (omega (arith, k .0), k .1)
-numbers SmallBuffer b = inr (omega arith, omega arith)
 
 -- the line of an answer whose number is n
 module _ (a : Answer) (b : List ℕ) (n : ℕ) (e : n ≡ toldOf a b .number) where

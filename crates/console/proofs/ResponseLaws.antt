@@ -30,7 +30,7 @@ use Rattle.console.specs.QuestionLine.{askedIn}
 use Rattle.console.specs.Printed.{idText, permitWord, grantText, stopText, refusalText, printed}
 use Rattle.console.specs.Console.{toldFor, response}
 use Rattle.output.proofs.DecimalLaws.{decimal-short}
-use Rattle.console.proofs.PrintLaws.{cause-number}
+use Rattle.fault.proofs.Numbers.{cause-number}
 use Rattle.console.proofs.LimitLaws.{refused-place, byte-place, decided-line}
 
 -- a grant with short strings at a line of the table

@@ -1,0 +1,9 @@
+pub mod Ages
+pub mod Keeping
+pub mod Packing
+pub mod Answers
+pub mod RoundTrip
+pub mod WithinLaws
+pub mod DecisionLaws
+pub mod AppendLaws
+pub mod Worked

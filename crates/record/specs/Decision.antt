@@ -1,0 +1,62 @@
+-- The record of what the call answered (02 (ii): "eight bytes per decision").
+use Prim.Native.Nat.{ℕ}
+use mathlib.Core.Path.{_≡_}
+use mathlib.Core.Bool.{Bool, false, cond}
+use mathlib.Core.List.{List, []}
+use mathlib.Core.Option.{Option, none, some}
+use lib.Dec.{eqb, ltb}
+use lib.ListN.{length}
+use Rattle.question.specs.declared.WeekMinute.{WeekMinute}
+use Rattle.question.specs.declared.LastAuthentication.{LastAuthentication}
+use Rattle.answer.specs.Answer.{Outcome, toldBy, Beside, granted, atLine, atPlace, decidingLine}
+use Rattle.record.specs.declared.Fields.{Fields}
+use Rattle.record.specs.declared.Recorded.{Recorded}
+use Rattle.record.specs.declared.Recorded.the-variants.{Writer, LongLine}
+use Rattle.record.specs.Layout.{recordLength}
+use Rattle.record.specs.Write.{writtenOf, bytesAfter, writtenNumber}
+
+-- the effective auth, which is told beside 0 and 1 only
+abbrev pub authBeside : Beside → Bool
+authBeside (granted g) = g .auth
+authBeside (atLine l) = false
+authBeside (atPlace p) = false
+
+-- what the writer is given for an outcome: its number, its deciding line and its auth, with the minute and the age of the question
+unfoldable pub fieldsBy : Outcome → WeekMinute → LastAuthentication → Fields
+fieldsBy o minute age = record { number = toldBy o .number; line = decidingLine o; minute = minute; auth = authBeside (toldBy o .beside); age = age }
+
+-- "line 16 (given in 16 bits)": the lines that are below it
+abbrev pub lineLimit : ℕ
+lineLimit = 65536
+
+-- a line that 16 bits do not hold has an answer of its own; else the writer's
+unfoldable pub recordedOf : (length : ℕ) → Fields → Recorded
+recordedOf length f = cond (ltb (f .line) lineLimit) (Writer (writtenOf length f)) LongLine
+
+-- the lent bytes afterwards
+unfoldable pub bytesRecorded : Recorded → List ℕ → Fields → List ℕ
+bytesRecorded (Writer w) old f = bytesAfter w old f
+bytesRecorded LongLine old f = old
+
+-- an outcome was given to be recorded: the answer, and the bytes
+pub record Records (o : Outcome) (minute : WeekMinute) (age : LastAuthentication) (old new : List ℕ) (r : Recorded) : Type 0 where
+  pub answer : r ≡ recordedOf (length old) (fieldsBy o minute age)
+  pub bytes : new ≡ bytesRecorded r old (fieldsBy o minute age)
+
+-- the record that a log gets for what the writer is given: eight bytes, or none where it is refused
+unfoldable pub recordBytes : Fields → List ℕ
+recordBytes f = bytesRecorded (recordedOf recordLength f) [] f
+
+-- what is written into lent bytes: nothing, where they are not eight
+unfoldable pub recordWithin : (length : ℕ) → List ℕ → List ℕ
+recordWithin length r = cond (eqb length recordLength) r []
+
+-- how many bytes were written
+unfoldable pub bytesWritten : Recorded → ℕ
+bytesWritten (Writer w) = cond (eqb (writtenNumber w) 0) recordLength 0
+bytesWritten LongLine = 0
+
+-- the writer's number; the papers give a line that is too long none
+unfoldable pub recordedNumber : Recorded → Option ℕ
+recordedNumber (Writer w) = some (writtenNumber w)
+recordedNumber LongLine = none
