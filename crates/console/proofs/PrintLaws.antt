@@ -18,6 +18,7 @@ use Rattle.answer.specs.declared.Granted.{Granted}
 use Rattle.answer.specs.declared.Answer.{Answer}
 use Rattle.answer.specs.declared.Answer.the-variants.{Permit, Password, NoEntry, StoppedByNargs, StoppedByArgument, StoppedByPath, MalformedQuestion, LongTable, RefusedByte, CutShort, RefusedLine, SmallBuffer}
 use Rattle.answer.specs.Answer.{stringIn, grantIn, toldOf}
+use Rattle.record.proofs.DecisionLaws.{numbers}
 use Rattle.output.specs.Decimal.{decimal}
 use Rattle.console.specs.Printed.{idText, permitWord, grantText, stopText, refusalText, printed}
 use Rattle.console.specs.Contract.{noGrant, grantBeside, numberBeside}

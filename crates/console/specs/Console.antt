@@ -1,11 +1,12 @@
 -- The line printed for a question line, from a table (01: "A small program prints one line for each question line").
-use mathlib.Core.List.{List}
+use mathlib.Core.List.{List, []}
 use mathlib.Core.Option.{Option, none, some}
 use Prim.Native.Nat.{ℕ}
 use lib.ListN.{replicate}
 use Rattle.answer.specs.declared.Answer.the-variants.{MalformedQuestion}
 use Rattle.answer.specs.Answer.{leastBuffer, Outcome, result, Told, told, atPlace, toldBy}
 use Rattle.answer.specs.Meaning.{Asked, answerOf}
+use Rattle.record.specs.Decision.{fieldsBy, recordBytes}
 use Rattle.console.specs.QuestionLine.{askedIn}
 use Rattle.console.specs.Printed.{printed}
 
@@ -23,3 +24,13 @@ outcomeFor table (some asked) b = answerOf table asked b
 unfoldable pub response : List ℕ → List ℕ → List ℕ
 unfolding printed askedIn
 response table line = printed (toldFor table (askedIn line))
+
+-- the record of what the table answers, with a new buffer; a line not of the form has none
+abbrev pub loggedFor : List ℕ → Option Asked → List ℕ
+loggedFor table none = []
+loggedFor table (some asked) = recordBytes (fieldsBy (answerOf table asked (replicate leastBuffer 0)) (asked .minute) (asked .age))
+
+-- what a log gets for a line without its newline (02 (ii)): a record, which the answer 10 alone has not
+unfoldable pub logged : List ℕ → List ℕ → List ℕ
+unfolding askedIn
+logged table line = loggedFor table (askedIn line)

@@ -16,10 +16,12 @@ use Rattle.options.specs.declared.span.Span.the-variants.{Nothing}
 use Rattle.answer.specs.declared.Granted.{Granted}
 use Rattle.answer.specs.declared.Answer.{Answer}
 use Rattle.answer.specs.declared.Answer.the-variants.{Permit, Password, NoEntry, StoppedByNargs, StoppedByArgument, StoppedByPath, MalformedQuestion, LongTable, RefusedByte, CutShort, RefusedLine, SmallBuffer}
-use Rattle.answer.specs.Answer.{tableLimit}
+use Rattle.answer.specs.Answer.{tableLimit, result}
 use Rattle.answer.specs.Meaning.{Asked}
-use Rattle.console.specs.QuestionLine.{lineLimit}
-use Rattle.console.specs.Console.{response}
+use Rattle.console.specs.QuestionLine.{lineLimit, askedIn}
+use Rattle.record.specs.Decision.{recordWithin}
+use Rattle.console.specs.Console.{outcomeFor, response, logged}
+use Rattle.console.specs.declared.respond.Answered.{Answered}
 use Rattle.console.specs.declared.respond.Response.{Response}
 use Rattle.console.specs.declared.respond.Response.the-variants.{Written, SmallBuffer as SmallRoom}
 use Rattle.console.specs.declared.«question_line».Magnitude.{Magnitude}
@@ -133,7 +135,18 @@ numberBeside SmallBuffer = 0
 abbrev pub leastRoom : ℕ
 leastRoom = 2048
 
--- the response stands at the buffer's beginning and later bytes stay, or the buffer is too small and stays
-abbrev pub Responds : List ℕ → List ℕ → List ℕ → List ℕ → Response → Type 0
-Responds table line old new SmallRoom = (length old < leastRoom) × (new ≡ old)
-Responds table line old new (Written n) = (leastRoom ≤ length old) × (n ≡ length (response table line)) × (new ≡ laid old 0 (response table line))
+-- a line was answered: the outcome, and the minute and the age that the line asks with
+pub record Answers (table line old new : List ℕ) (r : Answered) : Type 0 where
+  pub outcome : result (r .answer) new ≡ outcomeFor table (askedIn line) old
+  pub asked : (a : Asked) → askedIn line ≡ some a → (r .minute ≡ a .minute) × (r .last ≡ a .age)
+
+-- what of a line's record is written into so many lent bytes
+abbrev pub loggedWithin : (length : ℕ) → (table line : List ℕ) → List ℕ
+loggedWithin n table line = recordWithin n (logged table line)
+
+-- the response stands at the buffer's beginning and later bytes stay, and the record in its own bytes; or the buffer is too small and all stays
+abbrev pub Responds : (table line old new oldRecord newRecord : List ℕ) → Response → Type 0
+Responds table line old new oldRecord newRecord SmallRoom = (length old < leastRoom) × (new ≡ old) × (newRecord ≡ oldRecord)
+Responds table line old new oldRecord newRecord (Written n k) =
+    (leastRoom ≤ length old) × (n ≡ length (response table line)) × (new ≡ laid old 0 (response table line))
+    × (k ≡ length (loggedWithin (length oldRecord) table line)) × (newRecord ≡ laid oldRecord 0 (loggedWithin (length oldRecord) table line))

@@ -1,20 +1,19 @@
-// The printed line for a question line, from a table.
+// The printed line for a question line, from a table, and the record of its answer.
 use super::print::put_answer;
 use super::question_line::QuestionLine;
 use super::question_line::read_question_line;
 use answer::Answer;
 use answer::call::answer;
+use question::LastAuthentication;
+use question::WeekMinute;
+use record::decision::record_answer;
 use text::buffer::Filled;
-ghost use mathlib.Core.Path.{_≡_};
-ghost use Rattle.answer.specs.Answer.{result};
-ghost use Rattle.console.specs.QuestionLine.{askedIn};
-ghost use Rattle.console.specs.Console.{outcomeFor};
-ghost use Rattle.console.specs.Contract.{Responds};
+ghost use Rattle.console.specs.Contract.{Answers, Responds};
 
 // How a response was written.
 pub enum Response {
-    // How many bytes, the newline counted.
-    Written(usize),
+    // How many bytes of the line, the newline counted, and how many of the record: eight, or none.
+    Written(usize, usize),
     // The lent buffer has under 2,048 bytes; nothing was written.
     SmallBuffer,
 }
@@ -24,13 +23,24 @@ impl Response {
     pub const BUFFER: usize = 2048;
 }
 
+// The answer to a question line, and the minute and the age that it asks with.
+pub struct Answered {
+    pub answer: Answer,
+    pub minute: WeekMinute,
+    pub last: LastAuthentication,
+}
+
 // The answer to a question line, with its strings in the lent buffer.
-pub fn answer_line(table: &[u8], line: &[u8], buffer: &mut [u8]) -> Answer
-    ensures { λ r. ⌜ result r (now (buffer .exit)) ≡ outcomeFor (now (table .entry)) (askedIn (now (line .entry))) (now (buffer .entry)) ⌝ }
+pub fn answer_line(table: &[u8], line: &[u8], buffer: &mut [u8]) -> Answered
+    ensures { λ r. ⌜ Answers (now (table .entry)) (now (line .entry)) (now (buffer .entry)) (now (buffer .exit)) r ⌝ }
 {
     let mut scratch = [0u8; QuestionLine::BYTES];
     let QuestionLine::Asks(pieces) = read_question_line(line, &mut scratch) else {
-        return Answer::MalformedQuestion;
+        return Answered {
+            answer: Answer::MalformedQuestion,
+            minute: WeekMinute(0),
+            last: LastAuthentication::Never,
+        };
     };
     let strings = &scratch[..];
     let command = pieces.command;
@@ -41,7 +51,7 @@ pub fn answer_line(table: &[u8], line: &[u8], buffer: &mut [u8]) -> Answer
     let last = pieces.last;
     let groups = pieces.groups;
     let args = pieces.args;
-    answer(
+    let told = answer(
         table,
         &line[0..command],
         &line[command + 1..user],
@@ -51,20 +61,31 @@ pub fn answer_line(table: &[u8], line: &[u8], buffer: &mut [u8]) -> Answer
         last,
         &strings[groups..args],
         buffer,
-    )
+    );
+    Answered {
+        answer: told,
+        minute,
+        last,
+    }
 }
 
-// One question line, without its newline, is answered by one printed line.
-pub fn respond(table: &[u8], line: &[u8], out: &mut [u8]) -> Response
-    ensures { λ r. ⌜ Responds (now (table .entry)) (now (line .entry)) (now (out .entry)) (now (out .exit)) r ⌝ }
+// One question line, without its newline, is answered by one printed line; where eight bytes are lent for the log, they get the record.
+pub fn respond(table: &[u8], line: &[u8], out: &mut [u8], log: &mut [u8]) -> Response
+    ensures { λ r. ⌜ Responds (now (table .entry)) (now (line .entry)) (now (out .entry)) (now (out .exit)) (now (log .entry)) (now (log .exit)) r ⌝ }
 {
     if out.len() < Response::BUFFER {
         return Response::SmallBuffer;
     }
     let mut buffer = [0u8; Answer::BUFFER];
-    let told = answer_line(table, line, &mut buffer);
+    let answered = answer_line(table, line, &mut buffer);
+    let told = answered.answer;
+    let minute = answered.minute;
+    let last = answered.last;
     match put_answer(told, &buffer, out) {
         Filled::Full => Response::SmallBuffer,
-        Filled::Done(n) => Response::Written(n),
+        Filled::Done(n) => {
+            let recorded = record_answer(told, minute, last, log);
+            Response::Written(n, recorded.bytes())
+        }
     }
 }

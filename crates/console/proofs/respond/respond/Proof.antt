@@ -1,6 +1,6 @@
 use Rattle.console.specs.QuestionLine.{askedIn}
+use Rattle.console.proofs.RespondLaws.{told-for, recorded, response-fits, responded}
 use borrow.Author.Needs.{needs}
-use Rattle.console.proofs.RespondLaws.{told-for, response-fits, responded}
 use Rattle.console.proofs.respond.respond.Statement.{statement}
 use Rattle.console.proofs.respond.respond.Tie as tie
 
@@ -25,17 +25,32 @@ enum-told c = search needs
 enum-known-n : tie.Need-enum-known-n
 enum-known-n c = search needs
 
+record-answer-requires : tie.Need-record-answer-requires
+record-answer-requires c κs = search needs
+
+bytes-requires : tie.Need-bytes-requires
+bytes-requires c κs = search needs
+
 same-length : tie.Need-same-length
 same-length c = search needs
 
 returns-2 : tie.Need-returns-2
-returns-2 c = absurd (response-fits (c .before .before .before .before .before .before .before .before .before .before .before .before .before .before .args .table .now) (c .before .before .before .before .before .before .before .before .before .before .before .before .before .before .args .line .now) (c .before .before .before .before .put-answer .ensures) (told-for (c .before .before .before .before .before .before .before .before .before .before .before .before .before .before .args .table .now) (askedIn (c .before .before .before .before .before .before .before .before .before .before .before .before .before .before .args .line .now)) (c .before .before .before .before .before .before .before .before .answer-line .ensures)) (c .before .before .before .before .before .before .before .before .before .before .if1 .left) (c .enum-told .given .1))
+returns-2 c =
+    let a = c .before .before .before .before .before .before .before .before .before .before .before .before .before .before .before .before .args in
+    absurd (response-fits (a .table .now) (a .line .now) (c .before .before .before .before .put-answer .ensures) (told-for (a .table .now) (askedIn (a .line .now)) (c .before .before .before .before .before .before .before .before .before .answer-line .ensures .outcome)) (c .before .before .before .before .before .before .before .before .before .before .before .if1 .left) (c .enum-told .given .1))
 
 same-length-2 : tie.Need-same-length-2
 same-length-2 c = search needs
 
+same-length-3 : tie.Need-same-length-3
+same-length-3 c = search needs
+
 returns-3 : tie.Need-returns-3
-returns-3 c = responded (c .before .before .before .before .before .before .before .before .before .before .before .before .before .before .before .args .table .now) (c .before .before .before .before .before .before .before .before .before .before .before .before .before .before .before .args .line .now) (c .before .before .before .before .before .put-answer .ensures) (told-for (c .before .before .before .before .before .before .before .before .before .before .before .before .before .before .before .args .table .now) (askedIn (c .before .before .before .before .before .before .before .before .before .before .before .before .before .before .before .args .line .now)) (c .before .before .before .before .before .before .before .before .before .answer-line .ensures)) (c .before .before .before .before .before .before .before .before .before .before .before .if1 .left) (c .before .n .given .1)
+returns-3 c =
+    let a = c .before .before .before .before .before .before .before .before .before .before .before .before .before .before .before .before .before .before .before .before .before .before .args in
+    let x = c .before .before .before .before .before .before .before .before .before .before .before .before .before .before .before .answer-line .ensures in
+    responded (a .table .now) (a .line .now) (c .before .before .before .before .before .before .before .before .before .before .put-answer .ensures) (told-for (a .table .now) (askedIn (a .line .now)) (x .outcome)) (c .before .before .before .before .before .before .before .before .before .before .before .before .before .before .before .before .before .if1 .left) _ _ (c .before .before .before .before .before .before .n .given .1)
+    (recorded (a .table .now) (a .line .now) x (c .before .before .before .record-answer .ensures _) (c .bytes .ensures))
 
 pub respond-spec : {M : Type 1} → statement M
 respond-spec =
@@ -48,7 +63,10 @@ respond-spec =
     put-answer-requires
     enum-told
     enum-known-n
+    record-answer-requires
+    bytes-requires
     same-length
     returns-2
     same-length-2
+    same-length-3
     returns-3)
