@@ -3,7 +3,8 @@ use mathlib.Core.Path.{_≡_, refl, ap, _∙_}
 use mathlib.Core.Bool.{Bool, true, false, cond}
 use mathlib.Core.List.{List, [], _∷_, _++_}
 use mathlib.Core.Option.{none, some}
-use Prim.Native.Nat.{ℕ, zero, suc, _+_, _-_, _*_, _/_, _%_, _≤_, _<_}
+use Prim.Native.Nat.{ℕ, zero, suc, _+_, _-_, _*_, _/_, _%_, _≤_, _<_, _^_}
+use native.Mathlib.Nat.{pow-suc}
 use native.Mathlib.Omega.{arith}
 use borrow.Author.Tests.{lt-ltb, le-ltb, ltb-true, ltb-false, le-leb}
 use lib.Dec.{ltb}
@@ -88,9 +89,14 @@ more-digits m k p n h = go (ltb n 10) refl
 one-digit : (n : ℕ) → n < 10 → length (decimal n) ≤ 1
 one-digit n h = rw (decimal-one n h) (omega arith)
 
+-- a number below the power of ten has at most so many digits
+pub decimal-digits : (k n : ℕ) → n < 10 ^ suc k → length (decimal n) ≤ suc k
+decimal-digits zero n h = one-digit n h
+decimal-digits (suc k) n h = more-digits (10 ^ suc k) (suc k) (decimal-digits k) n (rw (← pow-suc 10 (suc k)) h)
+
 -- a number below 100,000 has at most five digits
 pub decimal-short : (n : ℕ) → n < 100000 → length (decimal n) ≤ 5
-decimal-short = more-digits 10000 4 (more-digits 1000 3 (more-digits 100 2 (more-digits 10 1 one-digit)))
+decimal-short = decimal-digits 4
 
 -- ---- the first digit is no zero
 abbrev Leads : ℕ → Type 0
