@@ -28,7 +28,8 @@ use Rattle.answer.proofs.CutLaws.{Asks, read}
 use Rattle.answer.proofs.MeaningLaws.{verdictTold, decision-told}
 use Rattle.console.specs.QuestionLine.{askedIn}
 use Rattle.console.specs.Printed.{idText, permitWord, grantText, stopText, refusalText, printed}
-use Rattle.console.specs.Console.{toldFor, response}
+use Rattle.console.specs.Console.{toldFor, response, loggedFor, logged}
+use Rattle.record.proofs.AppendLaws.{bytes-most}
 use Rattle.output.proofs.DecimalLaws.{decimal-short}
 use Rattle.fault.proofs.Numbers.{cause-number}
 use Rattle.console.proofs.LimitLaws.{refused-place, byte-place, decided-line}
@@ -152,3 +153,12 @@ response-length table line = go (askedIn line)
     go : (o : Option Asked) → length (printed (toldFor table o)) ≤ 2048
     go none = printed-length (told 10 (atPlace 0)) (record { number = omega arith; beside = omega arith })
     go (some a) = printed-length (toldFor table (some a)) (short-told table a (replicate leastBuffer 0) (rw (length-replicate {A = ℕ} leastBuffer 0) (omega arith)))
+
+-- ---- a line's record has eight bytes at most
+pub logged-length : (table line : List ℕ) → length (logged table line) ≤ 8
+unfolding logged
+logged-length table line = go (askedIn line)
+  where
+    go : (o : Option Asked) → length (loggedFor table o) ≤ 8
+    go none = omega arith
+    go (some a) = bytes-most _

@@ -61,6 +61,17 @@ module _ (f : Fields) (old : List ℕ) where
   unfolding recordedOf writtenOf recordBytes recordWithin
   recorded-count = counted (ltb (f .line) lineLimit) (eqb (length old) recordLength) (known (f .number)) (ltb (f .minute .0) weekMinutes)
 
+-- a log gets eight bytes at most
+pub bytes-most : (f : Fields) → length (recordBytes f) ≤ recordLength
+unfolding recordBytes recordedOf writtenOf bytesRecorded bytesAfter
+bytes-most f = go (ltb (f .line) lineLimit) (known (f .number)) (ltb (f .minute .0) weekMinutes)
+  where
+    go : (line number minute : Bool) → length (bytesRecorded (answered line true number minute) [] f) ≤ recordLength
+    go true true true = omega (arith, packed-length (storedOf f))
+    go true true false = omega arith
+    go true false m = omega arith
+    go false n m = omega arith
+
 -- ---- how many bytes an answer tells
 module _ (r : Recorded) (w : Written) (e : r ≡ Writer w) (n : ℕ) (k : n ≡ writtenNumber w) where
   pub bytes-done : n ≡ 0 → recordLength ≡ bytesWritten r

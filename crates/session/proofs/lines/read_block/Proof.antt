@@ -1,7 +1,9 @@
+use mathlib.Core.Path.{ap}
+use native.Mathlib.Omega.{arith}
+use Rattle.streams.proofs.InputLaws.{loaded-bytes}
 use borrow.Author.Needs.{needs}
-use Rattle.supertab.proofs.InputLaws.{loaded-bytes}
-use Rattle.supertab.proofs.lines.read_block.Statement.{statement}
-use Rattle.supertab.proofs.lines.read_block.Tie as tie
+use Rattle.session.proofs.lines.read_block.Statement.{statement}
+use Rattle.session.proofs.lines.read_block.Tie as tie
 
 large-buffer-requires : tie.Need-large-buffer-requires
 large-buffer-requires c κs = search needs
@@ -36,6 +38,9 @@ same-length c = search needs
 same-length-2 : tie.Need-same-length-2
 same-length-2 c = search needs
 
+same-length-3 : tie.Need-same-length-3
+same-length-3 c = search needs
+
 returns : tie.Need-returns
 returns c = search needs
 
@@ -52,13 +57,16 @@ write-waiting-requires : tie.Need-write-waiting-requires
 write-waiting-requires c κs = search needs
 
 returns-2 : tie.Need-returns-2
-returns-2 c = search needs
-
-same-length-3 : tie.Need-same-length-3
-same-length-3 c = search needs
+returns-2 c = let k = ap (λ l. l .waiting) (c .stopped .ensures .2) in (omega arith, (omega arith, omega arith, omega (arith, k), omega arith))
 
 same-length-4 : tie.Need-same-length-4
 same-length-4 c = search needs
+
+same-length-5 : tie.Need-same-length-5
+same-length-5 c = search needs
+
+same-length-6 : tie.Need-same-length-6
+same-length-6 c = search needs
 
 returns-3 : tie.Need-returns-3
 returns-3 c = search needs
@@ -78,12 +86,14 @@ read-block-spec =
     finish-requires
     same-length
     same-length-2
+    same-length-3
     returns
     array-share-prefix-block
     slice-aggregate-take-block
     take-block-requires
     write-waiting-requires
     returns-2
-    same-length-3
     same-length-4
+    same-length-5
+    same-length-6
     returns-3)

@@ -2,15 +2,15 @@ use mathlib.Core.Path.{_≡_}
 use Prim.Native.Nat.{_≤_, _-_}
 use borrow.Author.Needs.{needs}
 use lib.ListN.{length}
-use Rattle.supertab.specs.Lines.{Within}
-use Rattle.supertab.proofs.lines.take_block.Statement.{statement}
-use Rattle.supertab.proofs.lines.take_block.Tie as tie
+use Rattle.session.specs.Lines.{Within}
+use Rattle.session.proofs.lines.take_block.Statement.{statement}
+use Rattle.session.proofs.lines.take_block.Tie as tie
 
 abbrev Inv-loop : tie.InvT-loop
-Inv-loop block table line₀ out₀ progress₀ i₀ line out progress i = (i ≤ length block) × Within (length line) (length out) progress × (length line ≡ length line₀) × (length out ≡ length out₀)
+Inv-loop block name table line₀ out₀ records₀ progress₀ i₀ line out records progress i = (i ≤ length block) × Within (length line) (length out) (length records) progress × (length line ≡ length line₀) × (length out ≡ length out₀) × (length records ≡ length records₀)
 
 abbrev μ-loop : tie.MeasureT-loop
-μ-loop block table line₀ out₀ progress₀ i₀ line out progress i = length block - i
+μ-loop block name table line₀ out₀ records₀ progress₀ i₀ line out records progress i = length block - i
 
 loop-holds : tie.Need-loop-holds Inv-loop μ-loop
 loop-holds c = search needs
@@ -36,14 +36,20 @@ same-length c = search needs
 same-length-2 : tie.Need-same-length-2 Inv-loop μ-loop
 same-length-2 c = search needs
 
-returns : tie.Need-returns Inv-loop μ-loop
-returns c = search needs
-
 same-length-3 : tie.Need-same-length-3 Inv-loop μ-loop
 same-length-3 c = search needs
 
+returns : tie.Need-returns Inv-loop μ-loop
+returns c = search needs
+
 same-length-4 : tie.Need-same-length-4 Inv-loop μ-loop
 same-length-4 c = search needs
+
+same-length-5 : tie.Need-same-length-5 Inv-loop μ-loop
+same-length-5 c = search needs
+
+same-length-6 : tie.Need-same-length-6 Inv-loop μ-loop
+same-length-6 c = search needs
 
 returns-2 : tie.Need-returns-2 Inv-loop μ-loop
 returns-2 c = search needs
@@ -62,7 +68,9 @@ take-block-spec =
     loop-again
     same-length
     same-length-2
-    returns
     same-length-3
+    returns
     same-length-4
+    same-length-5
+    same-length-6
     returns-2)

@@ -1,0 +1,2 @@
+// A run of the program over question lines.
+pub mod lines; // question lines and their answers, block by block
