@@ -1,10 +1,13 @@
 // What the arguments ask for.
 use text::slice::equal;
-ghost use Rattle.io.specs.Counts.{Counts};
 
 pub enum Request {
     // To answer questions from the table that this argument names.
     Answer(usize),
+    // The same, with a log of the answers; the argument that names the log, and the one that names the table.
+    AnswerWithLog(usize, usize),
+    // To print the log that this argument names.
+    ReadLog(usize),
     // To check the table that this argument names.
     Check(usize),
     // The same, with the question in the argument behind it.
@@ -13,7 +16,9 @@ pub enum Request {
     Version,
     // Wrong uses, the last two with the argument that is wrong.
     NoTable,
+    NoLog,
     TableFromInput,
+    LogToOutput,
     UnknownOption(usize),
     Surplus(usize),
 }
@@ -21,6 +26,8 @@ pub enum Request {
 // What an argument is where an option may stand.
 enum Word {
     Check,
+    Log,
+    ReadLog,
     Help,
     Version,
     // `--`
@@ -48,6 +55,12 @@ fn word_of(text: &[u8]) -> Word {
     }
     if equal(text, b"--check") {
         return Word::Check;
+    }
+    if equal(text, b"--log") {
+        return Word::Log;
+    }
+    if equal(text, b"--read-log") {
+        return Word::ReadLog;
     }
     if equal(text, b"--help") {
         return Word::Help;
@@ -112,9 +125,51 @@ fn check_request() -> Request {
     }
 }
 
+// The table behind the log that this argument names.
+fn log_request(i: usize) -> Request {
+    match word_at(3) {
+        Word::EndOfOptions => last(4, Request::AnswerWithLog(i, 4)),
+        Word::Dash => Request::TableFromInput,
+        Word::Operand => last(3, Request::AnswerWithLog(i, 3)),
+        Word::Missing => Request::NoTable,
+        _ => Request::UnknownOption(3),
+    }
+}
+
+// What stands behind --log.
+fn with_log() -> Request {
+    match word_at(2) {
+        Word::Dash => Request::LogToOutput,
+        Word::Operand => log_request(2),
+        Word::Missing => Request::NoLog,
+        _ => Request::UnknownOption(2),
+    }
+}
+
+// A log to print, where an argument is there and none behind it.
+fn read_log_at(i: usize) -> Request {
+    if os::arg_count() > i {
+        return last(i, Request::ReadLog(i));
+    }
+    Request::NoLog
+}
+
+// What stands behind --read-log.
+fn read_log_request() -> Request {
+    match word_at(2) {
+        Word::EndOfOptions => read_log_at(3),
+        Word::Dash => read_log_at(2),
+        Word::Operand => read_log_at(2),
+        Word::Missing => Request::NoLog,
+        _ => Request::UnknownOption(2),
+    }
+}
+
 pub fn requested() -> Request {
     match word_at(1) {
         Word::Check => check_request(),
+        Word::Log => with_log(),
+        Word::ReadLog => read_log_request(),
         Word::Help => last(1, Request::Help),
         Word::Version => last(1, Request::Version),
         Word::EndOfOptions => last(2, Request::Answer(2)),
@@ -123,15 +178,4 @@ pub fn requested() -> Request {
         Word::Operand => last(1, Request::Answer(1)),
         Word::Missing => Request::NoTable,
     }
-}
-
-// The bytes of an argument; one that is longer fills the buffer.
-pub fn argument(i: usize, out: &mut [u8]) -> usize
-    ensures { λ r. ⌜ Counts r (now (out .exit)) ⌝ }
-{
-    let n = os::arg(i, out);
-    if os::errno() == libc::ENAMETOOLONG {
-        return out.len();
-    }
-    n
 }

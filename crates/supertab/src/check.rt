@@ -1,21 +1,21 @@
 // What --check prints.
-use super::arguments::argument;
-use super::input::Loaded;
-use super::message;
-use super::standard_output::print;
 use super::table::load_file;
 use super::table::load_from;
-use super::table::load_name;
 use super::table::table_buffer;
 use answer::Answer;
 use console::respond::answer_line;
 use explain::report::explain;
 use libc::STDIN_FILENO;
+use streams::argument::argument;
+use streams::input::Loaded;
+use streams::input::load_name;
+use streams::message;
+use streams::standard_output::print;
 use text::buffer::Filled;
 use text::slice::equal;
 ghost use mathlib.Core.Path.{_≡_};
 ghost use lib.ListN.{length};
-ghost use Rattle.supertab.specs.Input.{LoadedIn};
+ghost use Rattle.streams.specs.Input.{LoadedIn};
 
 // The longest report: a name, words, and a line of 32,768 bytes with a caret below its end.
 fn report_buffer() -> [u8; 81920]
@@ -45,7 +45,8 @@ fn print_report(name: &[u8], table: &[u8], answer: Answer) {
 // Asks the table the question; one that is none is told.
 fn ask(name: &[u8], table: &[u8], line: &[u8]) {
     let mut buffer = [0u8; Answer::BUFFER];
-    let answer = answer_line(table, line, &mut buffer);
+    let answered = answer_line(table, line, &mut buffer);
+    let answer = answered.answer;
     match answer {
         Answer::MalformedQuestion => {
             message::tell(b"this is no question; write COMMAND USER GROUPS HOST MINUTE AGE ARGS")
@@ -76,7 +77,7 @@ fn ask_named(name: &[u8], line: &[u8]) {
 // Asks the table that an argument names the question.
 fn ask_at(i: usize, line: &[u8]) {
     let mut name = io::buffer();
-    let Loaded::Bytes(n) = load_name(i, &mut name) else {
+    let Loaded::Bytes(n) = load_name(i, b"the name of the table", &mut name) else {
         return;
     };
     ask_named(&name[..n], line);

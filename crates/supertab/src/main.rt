@@ -1,15 +1,16 @@
-// The program: answers question lines from a table, or checks a table.
+// The program: answers question lines from a table, checks a table, keeps a log and prints one.
 mod arguments; // what the arguments ask for
 mod check; // what --check prints
-mod input; // bytes from a file
-mod lines; // question lines and their answers, block by block
-mod message; // lines on standard error
-mod standard_output; // bytes on standard output
+mod logging; // answers with a log, and the log that is printed
 mod table; // the table, from the file that an argument names
 
 use arguments::Request;
 use arguments::requested;
-use input::Loaded;
+use log::file::Log;
+use session::lines::answer_lines;
+use streams::input::Loaded;
+use streams::message;
+use streams::standard_output;
 
 // Answers the questions of standard input.
 fn answer(i: usize) {
@@ -17,23 +18,27 @@ fn answer(i: usize) {
     let Loaded::Bytes(n) = table::load(i, &mut bytes) else {
         return;
     };
-    lines::answer_lines(&bytes[..n]);
+    answer_lines(&bytes[..n], Log::none(), b"");
 }
 
 fn help() {
     standard_output::print(
-        b"supertab TABLE < QUESTIONS         print an answer for each question line\n\
-        supertab --check TABLE [QUESTION]  tell whether the table is good, or where it is not and why\n\
-        supertab --help                    print this\n\
-        supertab --version                 print the version\n\
-        A question line is COMMAND USER GROUPS HOST MINUTE AGE ARGS. --check - reads the table from standard input.\n\
-        Behind -- the name of a table may begin with -.\n",
+        b"supertab TABLE < QUESTIONS             print an answer for each question line\n\
+        supertab --log FILE TABLE < QUESTIONS  the same, and append a record of each answer to the file\n\
+        supertab --read-log FILE               print the records of a log, NUMBER LINE MINUTE AUTH AGE\n\
+        supertab --check TABLE [QUESTION]      tell whether the table is good, or where it is not and why\n\
+        supertab --help                        print this\n\
+        supertab --version                     print the version\n\
+        A question line is COMMAND USER GROUPS HOST MINUTE AGE ARGS. --check - reads the table, and --read-log - the log,\n\
+        from standard input. Behind -- the name of a table or of a log that is read may begin with -.\n",
     );
 }
 
 fn main() {
     match requested() {
         Request::Answer(i) => answer(i),
+        Request::AnswerWithLog(i, j) => logging::answer(i, j),
+        Request::ReadLog(i) => logging::read(i),
         Request::Check(i) => check::check(i),
         Request::CheckWith(i) => check::check_with(i),
         Request::Help => help(),
@@ -41,6 +46,8 @@ fn main() {
             standard_output::print(b"supertab 0.1.0\n");
         }
         Request::NoTable => message::tell(b"no table is named; supertab --help tells the uses"),
+        Request::NoLog => message::tell(b"no log is named; supertab --help tells the uses"),
+        Request::LogToOutput => message::tell(b"-: the log must be a file"),
         Request::TableFromInput => {
             message::tell(
                 b"-: the questions are read from standard input, so the table must be a file",

@@ -1,28 +1,17 @@
 // The table, from the file that an argument names.
-use super::input::Loaded;
-use super::input::read_all;
-use super::message;
+use streams::input::Loaded;
+use streams::input::load_name;
+use streams::input::read_all;
+use streams::message;
 ghost use mathlib.Core.Path.{_≡_};
 ghost use lib.ListN.{length};
-ghost use Rattle.supertab.specs.Input.{LoadedIn};
+ghost use Rattle.streams.specs.Input.{LoadedIn};
 
 // One byte more than a table may have, which is enough to see that it is too long.
 pub fn table_buffer() -> [u8; 32769]
     ensures { λ r. ⌜ 32769 ≡ length r ⌝ }
 {
     [0; 32769]
-}
-
-// The name that an argument gives; one that is longer than the buffer is told.
-pub fn load_name(i: usize, out: &mut [u8]) -> Loaded
-    ensures { λ r. ⌜ LoadedIn (now (out .exit)) r ⌝ }
-{
-    let n = os::arg(i, out);
-    if os::errno() != 0 {
-        message::failed(b"the name of the table");
-        return Loaded::Failed;
-    }
-    Loaded::Bytes(n)
 }
 
 // The bytes of an open file, as many as there is room for; a failure is told.
@@ -57,7 +46,7 @@ pub fn load(i: usize, out: &mut [u8]) -> Loaded
     ensures { λ r. ⌜ LoadedIn (now (out .exit)) r ⌝ }
 {
     let mut name = io::buffer();
-    let Loaded::Bytes(n) = load_name(i, &mut name) else {
+    let Loaded::Bytes(n) = load_name(i, b"the name of the table", &mut name) else {
         return Loaded::Failed;
     };
     load_file(&name[..n], out)

@@ -1,5 +1,5 @@
+use Rattle.streams.proofs.InputLaws.{loaded-bytes}
 use borrow.Author.Needs.{needs}
-use Rattle.supertab.proofs.InputLaws.{loaded-bytes}
 use Rattle.supertab.proofs.answer.Statement.{statement}
 use Rattle.supertab.proofs.answer.Tie as tie
 
@@ -27,6 +27,12 @@ array-share-prefix-bytes c = loaded-bytes (c .before .before .before .before .lo
 slice-aggregate-answer-lines : tie.Need-slice-aggregate-answer-lines
 slice-aggregate-answer-lines c = loaded-bytes (c .before .before .before .before .before .load .ensures) (c .before .before .n .given .1) .1
 
+none-requires : tie.Need-none-requires
+none-requires c κs = search needs
+
+slice-aggregate-answer-lines-2 : tie.Need-slice-aggregate-answer-lines-2
+slice-aggregate-answer-lines-2 c = search needs
+
 answer-lines-requires : tie.Need-answer-lines-requires
 answer-lines-requires c κs = search needs
 
@@ -45,5 +51,7 @@ answer-spec =
     returns
     array-share-prefix-bytes
     slice-aggregate-answer-lines
+    none-requires
+    slice-aggregate-answer-lines-2
     answer-lines-requires
     returns-2)

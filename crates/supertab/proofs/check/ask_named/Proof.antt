@@ -1,5 +1,5 @@
 use borrow.Author.Needs.{needs}
-use Rattle.supertab.proofs.InputLaws.{loaded-bytes}
+use Rattle.streams.proofs.InputLaws.{loaded-bytes}
 use Rattle.supertab.proofs.check.ask_named.Statement.{statement}
 use Rattle.supertab.proofs.check.ask_named.Tie as tie
 

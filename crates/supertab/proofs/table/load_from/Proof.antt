@@ -1,5 +1,5 @@
 use borrow.Author.Needs.{needs}
-use Rattle.supertab.proofs.InputLaws.{loaded-bytes, told-bytes}
+use Rattle.streams.proofs.InputLaws.{loaded-bytes, told-bytes}
 use Rattle.supertab.proofs.table.load_from.Statement.{statement}
 use Rattle.supertab.proofs.table.load_from.Tie as tie
 

@@ -1,0 +1,49 @@
+use Rattle.streams.proofs.InputLaws.{loaded-bytes}
+use borrow.Author.Needs.{needs}
+use Rattle.supertab.proofs.logging.answer.Statement.{statement}
+use Rattle.supertab.proofs.logging.answer.Tie as tie
+
+table-buffer-requires : tie.Need-table-buffer-requires
+table-buffer-requires c κs = search needs
+
+slice-aggregate-load : tie.Need-slice-aggregate-load
+slice-aggregate-load c = search needs
+
+load-requires : tie.Need-load-requires
+load-requires c κs = search needs
+
+enum-known-n : tie.Need-enum-known-n
+enum-known-n c = search needs
+
+enum-told : tie.Need-enum-told
+enum-told c = search needs
+
+returns : tie.Need-returns
+returns c = search needs
+
+array-share-prefix-bytes : tie.Need-array-share-prefix-bytes
+array-share-prefix-bytes c = loaded-bytes (c .before .before .before .before .load .ensures) (c .before .n .given .1) .0
+
+slice-aggregate-answer-named : tie.Need-slice-aggregate-answer-named
+slice-aggregate-answer-named c = loaded-bytes (c .before .before .before .before .before .load .ensures) (c .before .before .n .given .1) .1
+
+answer-named-requires : tie.Need-answer-named-requires
+answer-named-requires c κs = search needs
+
+returns-2 : tie.Need-returns-2
+returns-2 c = search needs
+
+pub answer-spec : {M : Type 1} → statement M
+answer-spec =
+    tie.close
+    (tie.spec
+    table-buffer-requires
+    slice-aggregate-load
+    load-requires
+    enum-known-n
+    enum-told
+    returns
+    array-share-prefix-bytes
+    slice-aggregate-answer-named
+    answer-named-requires
+    returns-2)

@@ -1,0 +1,54 @@
+// Answers with a log, and the log that is printed.
+use super::table;
+use libc::STDIN_FILENO;
+use log::file::open;
+use log::show::show;
+use session::lines::answer_lines;
+use streams::input::Loaded;
+use streams::input::load_name;
+use streams::message;
+use text::slice::equal;
+
+// Answers the questions of standard input from a table, with a log of this name.
+fn answer_named(table: &[u8], i: usize) {
+    let mut name = io::buffer();
+    let Loaded::Bytes(n) = load_name(i, b"the name of the log", &mut name) else {
+        return;
+    };
+    let opened = open(&name[..n]);
+    answer_lines(table, opened, &name[..n]);
+}
+
+// Answers the questions of standard input, with the log and the table that these arguments name. The table is read before the log
+// is opened, so that a wrong table leaves no log behind.
+pub fn answer(i: usize, j: usize) {
+    let mut bytes = table::table_buffer();
+    let Loaded::Bytes(n) = table::load(j, &mut bytes) else {
+        return;
+    };
+    answer_named(&bytes[..n], i);
+}
+
+// Prints the log of this name, `-` for standard input; one that cannot be opened is told.
+fn read_named(name: &[u8]) {
+    if equal(name, b"-") {
+        show(STDIN_FILENO, b"standard input");
+        return;
+    }
+    let fd = os::open_read(name);
+    if fd < 0 {
+        message::failed(name);
+        return;
+    }
+    show(fd, name);
+    libc::close(fd);
+}
+
+// Prints the log that an argument names.
+pub fn read(i: usize) {
+    let mut name = io::buffer();
+    let Loaded::Bytes(n) = load_name(i, b"the name of the log", &mut name) else {
+        return;
+    };
+    read_named(&name[..n]);
+}
