@@ -51,26 +51,10 @@ fn put_fields(fields: Fields, out: &mut [u8], n: usize) -> Filled
 {
     let minute = fields.minute;
     let age = fields.age;
-    let number = then_all(
-        put_decimal(out, n, fields.number as usize),
-        b" ",
-        out,
-    );
-    let line = then_all(
-        then_decimal(number, fields.line as usize, out),
-        b" ",
-        out,
-    );
-    let minutes = then_all(
-        then_decimal(line, minute.0 as usize, out),
-        b" ",
-        out,
-    );
-    let auth = then_all(
-        then_auth(minutes, fields.auth, out),
-        b" ",
-        out,
-    );
+    let number = then_all(put_decimal(out, n, fields.number as usize), b" ", out);
+    let line = then_all(then_decimal(number, fields.line as usize, out), b" ", out);
+    let minutes = then_all(then_decimal(line, minute.0 as usize, out), b" ", out);
+    let auth = then_all(then_auth(minutes, fields.auth, out), b" ", out);
     then_all(then_age(auth, age, out), b"\n", out)
 }
 
@@ -78,11 +62,7 @@ fn put_fields(fields: Fields, out: &mut [u8], n: usize) -> Filled
 fn put_refused(number: u8, out: &mut [u8], n: usize) -> Filled
     ensures { λ r. ⌜ Wrote (now (out .entry)) (now (out .exit)) n (refusedText number) r ⌝ }
 {
-    let numbered = then_decimal(
-        put_all(out, n, b"refused "),
-        number as usize,
-        out,
-    );
+    let numbered = then_decimal(put_all(out, n, b"refused "), number as usize, out);
     then_all(numbered, b"\n", out)
 }
 

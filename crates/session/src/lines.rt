@@ -196,15 +196,7 @@ fn take_block(
     let mut progress = start;
     let mut i = 0;
     while i < block.len() && progress.going {
-        progress = take_byte(
-            block[i],
-            name,
-            table,
-            line,
-            out,
-            records,
-            progress,
-        );
+        progress = take_byte(block[i], name, table, line, out, records, progress);
         i += 1;
     }
     progress
@@ -252,15 +244,7 @@ fn read_block(
             if n == 0 {
                 return finish(name, table, line, out, records, progress);
             }
-            let taken = take_block(
-                &block[..n],
-                name,
-                table,
-                line,
-                out,
-                records,
-                progress,
-            );
+            let taken = take_block(&block[..n], name, table, line, out, records, progress);
             write_waiting(name, out, records, taken)
         }
     }

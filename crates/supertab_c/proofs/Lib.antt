@@ -1,3 +1,4 @@
 pub mod ReportLaws
 pub mod CallLaws
 pub mod SmallLaws
+pub mod RecordLaws

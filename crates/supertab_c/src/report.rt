@@ -69,7 +69,7 @@ fn zero_before(end: usize) -> i64
     counted_as(end - 1)
 }
 
-fn as_bit(on: bool) -> i64
+pub fn as_bit(on: bool) -> i64
     ensures { λ r. ⌜ r ≡ bit on ⌝ }
 {
     if on {
