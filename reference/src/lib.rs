@@ -1,4 +1,4 @@
-//! A reader of rule tables: a table and a question give one answer.
+//! A reader of rule tables: a table and a question give one answer, and a log record keeps it.
 
 pub mod answer;
 pub mod bytes;
@@ -13,6 +13,8 @@ pub mod pattern;
 pub mod program;
 pub mod question;
 pub mod reader;
+pub mod record;
+pub mod record_cases;
 pub mod times;
 pub mod users;
 pub mod variables;

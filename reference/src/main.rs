@@ -4,10 +4,12 @@ use std::fs::File;
 use std::io::{self, BufRead, BufWriter, ErrorKind, Read, Write};
 use std::process::ExitCode;
 
-use rule_table::{answer, cases, program};
+use rule_table::{answer, cases, program, record_cases};
 
 const USAGE: &str = "usage: reference TABLE < questions
-       reference --cases < cases";
+       reference --cases < cases
+       reference --record-write < cases
+       reference --record-read < cases";
 
 fn main() -> ExitCode {
     let arguments: Vec<_> = std::env::args_os().skip(1).collect();
@@ -16,6 +18,8 @@ fn main() -> ExitCode {
     };
     match argument.to_str() {
         Some("--cases") => finish(reply_to_lines(cases::reply)),
+        Some("--record-write") => finish(reply_to_lines(record_cases::reply_to_writing)),
+        Some("--record-read") => finish(reply_to_lines(record_cases::reply_to_reading)),
         Some(other) if other.starts_with('-') => fail(USAGE),
         _ => match read_table(argument) {
             Ok(table) => finish(reply_to_lines(|line| program::reply(&table, line))),

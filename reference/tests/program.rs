@@ -65,7 +65,14 @@ fn a_table_that_cannot_be_read() {
 
 #[test]
 fn usage() {
-    for arguments in [&[][..], &["--unknown"], &["a", "b"], &["--cases", "x"]] {
+    for arguments in [
+        &[][..],
+        &["--unknown"],
+        &["a", "b"],
+        &["--cases", "x"],
+        &["--record-write", "x"],
+        &["--record-read", "x"],
+    ] {
         let output = run(arguments, b"");
         assert_eq!(output.status.code(), Some(2));
         assert_eq!(output.stdout, b"");
@@ -155,4 +162,15 @@ fn bad_cases() {
     assert_eq!(case(&good[..8]), "bad case");
     let output = run(&["--cases"], b"bad\n\t63\t61\t-\t68\t0\tnever\t-\t2048\n");
     assert_eq!(output.stdout, b"bad case\n2 0\n");
+}
+
+/// Both modes of log records go on behind a bad case, and the last line needs no newline.
+#[test]
+fn record_modes() {
+    let output = run(&["--record-write"], b"0\t3\t1\ty\t5\nbad\n10\t0\t0\tn\t0");
+    assert_eq!(output.stdout, b"2000030006000005\nbad case\nrefused 2\n");
+    assert_eq!(output.status.code(), Some(0));
+    let output = run(&["--record-read"], b"2000030006000005\nbad\n\n-\n");
+    assert_eq!(output.stdout, b"0 3 1 1 5\nbad case\nbad case\nrefused 4\n");
+    assert_eq!(output.status.code(), Some(0));
 }

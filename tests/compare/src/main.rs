@@ -7,6 +7,9 @@ mod fuzz;
 mod grammar;
 mod lent;
 mod random;
+mod record_call;
+mod record_random;
+mod records;
 mod stars;
 mod tables;
 
@@ -15,9 +18,10 @@ use std::io::{self, BufRead, BufWriter, Write};
 use std::path::Path;
 use std::process::ExitCode;
 
-use rule_table::cases;
+use rule_table::{cases, record_cases};
 
 use call::{difference, Asked, Caller};
+use record_call::{Reading, Writing};
 
 const USAGE: &str = "usage: compare --cases < cases
            print the call's answer to each case line
@@ -28,6 +32,12 @@ const USAGE: &str = "usage: compare --cases < cases
            compare them on random and damaged bytes in every argument
        compare --stars ROUNDS SEED
            compare them on random patterns with many stars
+       compare --record-write < cases
+       compare --record-read < cases
+           print what the call writes for, or reads from, each case line of log records
+       compare --records ROUNDS SEED
+           compare them on log records: every number with the other fields at their ends, every
+           length, then random fields and bytes
        compare --bench [TABLE]
            time them on the tables, or on those of one name; on all, also as the next
        compare --bench stars
@@ -43,6 +53,8 @@ fn main() -> ExitCode {
     let words: Vec<&str> = words.iter().map(String::as_str).collect();
     let result = match words[..] {
         ["--cases"] => answer_cases().map(|()| true),
+        ["--record-write"] => write_records().map(|()| true),
+        ["--record-read"] => read_records().map(|()| true),
         ["--check"] => check_cases(u64::MAX),
         ["--check", tables] => match tables.parse() {
             Ok(tables) => check_cases(tables),
@@ -54,6 +66,10 @@ fn main() -> ExitCode {
         },
         ["--stars", rounds, seed] => match (rounds.parse(), seed.parse()) {
             (Ok(rounds), Ok(seed)) => Ok(counted(stars::run(rounds, seed))),
+            _ => return wrong_use(),
+        },
+        ["--records", rounds, seed] => match (rounds.parse(), seed.parse()) {
+            (Ok(rounds), Ok(seed)) => Ok(counted(records::run(rounds, seed))),
             _ => return wrong_use(),
         },
         ["--bench", "stars"] => Ok(counted(stars::times())),
@@ -107,17 +123,40 @@ fn for_lines(mut each: impl FnMut(u64, &[u8]) -> io::Result<()>) -> io::Result<(
     Ok(())
 }
 
-fn answer_cases() -> io::Result<()> {
-    let mut caller = Caller::new();
+/// Print one line for each line of standard input that is a case.
+fn reply_to_cases(mut reply: impl FnMut(&[u8]) -> Option<String>) -> io::Result<()> {
     let mut output = BufWriter::new(io::stdout().lock());
     for_lines(|_, line| {
-        let printed = match cases::read_case(line) {
-            Some(case) => caller.call(&Asked::of_case(&case)).printed(),
-            None => "bad case".to_string(),
-        };
+        let printed = reply(line).unwrap_or_else(|| "bad case".to_string());
         writeln!(output, "{printed}")
     })?;
     output.flush()
+}
+
+fn answer_cases() -> io::Result<()> {
+    let mut caller = Caller::new();
+    reply_to_cases(|line| {
+        let case = cases::read_case(line)?;
+        Some(caller.call(&Asked::of_case(&case)).printed())
+    })
+}
+
+fn write_records() -> io::Result<()> {
+    let mut caller = record_call::Caller::new();
+    reply_to_cases(|line| {
+        let fields = record_cases::read_writing(line)?;
+        let got = caller.write(&Writing::of_fields(&fields));
+        Some(got.map_or_else(|wrong| wrong, |got| got.printed_record()))
+    })
+}
+
+fn read_records() -> io::Result<()> {
+    let mut caller = record_call::Caller::new();
+    reply_to_cases(|line| {
+        let bytes = record_cases::read_reading(line)?;
+        let got = caller.read(&Reading::of_bytes(&bytes));
+        Some(got.map_or_else(|wrong| wrong, |got| got.printed_fields()))
+    })
 }
 
 /// Compare on each case; of the first so many tables that give a decision, try every cut.
