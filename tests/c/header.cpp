@@ -1,4 +1,4 @@
-// The header in C++: the function is called by its C name, and the constants are known.
+// The header in C++: the functions are called by their C names, and the constants are known.
 #include "supertab.h"
 
 int main() {
@@ -7,5 +7,11 @@ int main() {
     int64_t report[SUPERTAB_REPORT_LENGTH];
     uint8_t answer = supertab_answer(none, 0, command, 1, user, 1, none, 0, host, 1, 0, false, 0, none, 0, buffer,
                                      sizeof buffer, report, SUPERTAB_REPORT_LENGTH);
-    return answer == SUPERTAB_NO_ENTRY ? 0 : 1;
+    uint8_t record[SUPERTAB_RECORD_LENGTH];
+    int64_t fields[SUPERTAB_FIELDS_LENGTH];
+    uint8_t written = supertab_record_write(answer, 0, 0, false, false, 0, record, sizeof record);
+    uint8_t read = supertab_record_read(record, sizeof record, fields, SUPERTAB_FIELDS_LENGTH);
+    bool good = answer == SUPERTAB_NO_ENTRY && written == SUPERTAB_RECORD_DONE && read == SUPERTAB_RECORD_DONE &&
+                fields[SUPERTAB_FIELD_NUMBER] == SUPERTAB_NO_ENTRY;
+    return good ? 0 : 1;
 }

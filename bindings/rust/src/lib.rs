@@ -1,8 +1,8 @@
 //! Who may run which command, from a rule table in the style of super.tab.
 //!
-//! A safe way to call the static library `libsupertab_c.a`, whose answers are proved to be those
-//! of the definitions. Nothing is kept between calls. A table that was cut in the middle of a line
-//! decides nothing: it is refused.
+//! A safe way to call the static library `libsupertab_c.a`, whose answers and log records are
+//! proved to be those of the definitions. Nothing is kept between calls. A table that was cut in the
+//! middle of a line decides nothing: it is refused.
 //!
 //! ```
 //! use supertab::{answer, Answer, Question};
@@ -23,6 +23,18 @@
 //! }
 //! ```
 //!
+//! A decision fits into the eight bytes of a log record:
+//!
+//! ```
+//! use supertab::{read_record, Answer, Fields};
+//!
+//! let record = Answer::StoppedByNargs { line: 5 }.record(1_049, Some(15))?;
+//! assert_eq!(record, [0x23, 0x00, 0x05, 0x10, 0x64, 0x00, 0x00, 0x0f]);
+//! let fields = Fields { number: 3, line: 5, minute: 1_049, auth: false, age: Some(15) };
+//! assert_eq!(read_record(&record), Ok(fields));
+//! # Ok::<(), supertab::RecordRefusal>(())
+//! ```
+//!
 //! The archive is looked for in the folder that `SUPERTAB_LIB_DIR` names when the crate is built,
 //! or else in `target/staticlib` of the repository, where `rt staticlib supertab_c` leaves it.
 
@@ -30,10 +42,13 @@ mod answer;
 mod cause;
 mod question;
 pub mod raw;
+mod record;
 
 pub use answer::{Answer, Permission, Refusal};
 pub use cause::Cause;
 pub use question::{zero_ended, Question};
+pub use raw::RECORD_LENGTH;
+pub use record::{read_record, write_record, Fields, RecordRefusal};
 
 use raw::{report, BUFFER_LENGTH, REPORT_LENGTH};
 

@@ -1,11 +1,11 @@
-//! The list of causes, the answer numbers and the report's indices stand in several places, for
-//! the reader of each; here they are held to each other.
+//! The list of causes, the answer numbers, the report's indices and those of a record's fields stand
+//! in several places, for the reader of each; here they are held to each other.
 
 use std::fs;
 use std::path::Path;
 
-use supertab::raw::{self, report};
-use supertab::{Cause, Refusal};
+use supertab::raw::{self, field, report};
+use supertab::{Cause, RecordRefusal, Refusal};
 
 /// A file of the repository.
 fn file(name: &str) -> String {
@@ -75,9 +75,10 @@ fn causes_of_the_header() {
 #[test]
 fn answers_of_the_header() {
     // 01's table of answer numbers, with the one for a report that is too short.
+    let others = ["BUFFER_", "REPORT_", "CAUSE_", "RECORD_", "FIELD"];
     let numbers: Vec<usize> = constants("SUPERTAB_")
         .into_iter()
-        .filter(|(name, _)| !["BUFFER_", "REPORT_", "CAUSE_"].iter().any(|p| name.starts_with(p)))
+        .filter(|(name, _)| !others.iter().any(|other| name.starts_with(other)))
         .map(|(_, number)| number)
         .collect();
     let papers: Vec<usize> = (0..=5).chain(10..=18).chain([raw::SMALL_REPORT.into()]).collect();
@@ -106,6 +107,33 @@ fn report_of_the_header() {
     ]
     .map(|(name, number)| (name.to_string(), number));
     assert_eq!(constants("SUPERTAB_REPORT_"), ours);
+}
+
+#[test]
+fn records_of_the_header() {
+    let refusal = |refusal: RecordRefusal| usize::from(refusal.number());
+    let ours = [
+        ("DONE", 0),
+        ("VERSION", refusal(RecordRefusal::Version)),
+        ("NUMBER", refusal(RecordRefusal::Number)),
+        ("MINUTE", refusal(RecordRefusal::Minute)),
+        ("BYTES", refusal(RecordRefusal::Length)),
+        ("SMALL_FIELDS", raw::SMALL_FIELDS.into()),
+        ("LENGTH", raw::RECORD_LENGTH),
+    ]
+    .map(|(name, number)| (name.to_string(), number));
+    assert_eq!(constants("SUPERTAB_RECORD_"), ours);
+    assert_eq!(constants("SUPERTAB_FIELDS_"), [("LENGTH".to_string(), raw::FIELDS_LENGTH)]);
+    let ours = [
+        ("NUMBER", field::NUMBER),
+        ("LINE", field::LINE),
+        ("MINUTE", field::MINUTE),
+        ("AUTH", field::AUTH),
+        ("AUTHENTICATED", field::AUTHENTICATED),
+        ("AGE", field::AGE),
+    ]
+    .map(|(name, number)| (name.to_string(), number));
+    assert_eq!(constants("SUPERTAB_FIELD_"), ours);
 }
 
 #[test]
