@@ -38,20 +38,20 @@ impl Progress {
     }
 }
 
-// Writes out the lines that wait.
+// Writes out the lines that wait, unless the run has stopped.
 fn write_waiting(out: &[u8], progress: Progress) -> Progress
     requires { ⌜ progress .waiting ≤ length (now out) ⌝ }
     ensures { λ r. ⌜ (r .begun ≡ progress .begun) × (r .waiting ≡ 0) ⌝ }
 {
-    let waiting = progress.waiting;
-    if print(&out[0..waiting]) {
-        return Progress {
-            begun: progress.begun,
-            waiting: 0,
-            going: progress.going,
-        };
+    if !progress.going {
+        return progress.stopped();
     }
-    progress.stopped()
+    let waiting = progress.waiting;
+    Progress {
+        begun: progress.begun,
+        waiting: 0,
+        going: print(&out[0..waiting]),
+    }
 }
 
 // Writes out the lines that wait where there is no room for another.

@@ -1,6 +1,7 @@
 // Answers with a log, and the log that is printed.
 use super::table;
 use libc::STDIN_FILENO;
+use log::file::Log;
 use log::file::open;
 use log::show::show;
 use session::lines::answer_lines;
@@ -9,14 +10,16 @@ use streams::input::load_name;
 use streams::message;
 use text::slice::equal;
 
-// Answers the questions of standard input from a table, with a log of this name.
-fn answer_named(table: &[u8], i: usize) {
+// Answers the questions of standard input from a table, with the log that an argument names; without one where that cannot be.
+fn answer_logged(table: &[u8], i: usize) {
     let mut name = io::buffer();
-    let Loaded::Bytes(n) = load_name(i, b"the name of the log", &mut name) else {
-        return;
-    };
-    let opened = open(&name[..n]);
-    answer_lines(table, opened, &name[..n]);
+    match load_name(i, b"the name of the log", &mut name) {
+        Loaded::Failed => answer_lines(table, Log::none(), b""),
+        Loaded::Bytes(n) => {
+            let opened = open(&name[..n]);
+            answer_lines(table, opened, &name[..n]);
+        }
+    }
 }
 
 // Answers the questions of standard input, with the log and the table that these arguments name. The table is read before the log
@@ -26,7 +29,7 @@ pub fn answer(i: usize, j: usize) {
     let Loaded::Bytes(n) = table::load(j, &mut bytes) else {
         return;
     };
-    answer_named(&bytes[..n], i);
+    answer_logged(&bytes[..n], i);
 }
 
 // Prints the log of this name, `-` for standard input; one that cannot be opened is told.

@@ -24,11 +24,11 @@ returns c = search needs
 array-share-prefix-bytes : tie.Need-array-share-prefix-bytes
 array-share-prefix-bytes c = loaded-bytes (c .before .before .before .before .load .ensures) (c .before .n .given .1) .0
 
-slice-aggregate-answer-named : tie.Need-slice-aggregate-answer-named
-slice-aggregate-answer-named c = loaded-bytes (c .before .before .before .before .before .load .ensures) (c .before .before .n .given .1) .1
+slice-aggregate-answer-logged : tie.Need-slice-aggregate-answer-logged
+slice-aggregate-answer-logged c = loaded-bytes (c .before .before .before .before .before .load .ensures) (c .before .before .n .given .1) .1
 
-answer-named-requires : tie.Need-answer-named-requires
-answer-named-requires c κs = search needs
+answer-logged-requires : tie.Need-answer-logged-requires
+answer-logged-requires c κs = search needs
 
 returns-2 : tie.Need-returns-2
 returns-2 c = search needs
@@ -44,6 +44,6 @@ answer-spec =
     enum-told
     returns
     array-share-prefix-bytes
-    slice-aggregate-answer-named
-    answer-named-requires
+    slice-aggregate-answer-logged
+    answer-logged-requires
     returns-2)
