@@ -18,7 +18,7 @@ use Rattle.record.specs.declared.Recorded.the-variants.{Writer, LongLine
 use Rattle.record.specs.Layout.{recordLength, packedBits, bitsOf, packed}
 use Rattle.record.specs.Stored.{known, storedOf}
 use Rattle.record.specs.Write.{writtenOf, bytesAfter, writtenNumber}
-use Rattle.record.specs.Decision.{lineLimit, recordedOf, bytesRecorded, recordBytes, recordWithin, bytesWritten}
+use Rattle.record.specs.Decision.{lineLimit, recordedOf, bytesRecorded, recordBytes, recordWithin, recordedNumber, bytesWritten}
 use Rattle.record.proofs.RoundTrip.{packed-length}
 
 -- bytes laid over as many others
@@ -43,7 +43,7 @@ module _ (f : Fields) (old : List ℕ) where
   placed false false n m e = refl
 
   counted : (line eight number minute : Bool) → bytesWritten (answered line eight number minute) ≡ length (cond eight (bytesRecorded (answered line true number minute) [] f) [])
-  unfolding bytesWritten bytesRecorded bytesAfter writtenNumber
+  unfolding bytesWritten recordedNumber bytesRecorded bytesAfter writtenNumber
   counted true true true true = sym (packed-length (storedOf f))
   counted true true true false = refl
   counted true true false m = refl
@@ -75,13 +75,13 @@ bytes-most f = go (ltb (f .line) lineLimit) (known (f .number)) (ltb (f .minute 
 -- ---- how many bytes an answer tells
 module _ (r : Recorded) (w : Written) (e : r ≡ Writer w) (n : ℕ) (k : n ≡ writtenNumber w) where
   pub bytes-done : n ≡ 0 → recordLength ≡ bytesWritten r
-  unfolding bytesWritten
+  unfolding bytesWritten recordedNumber
   bytes-done z = rw (e, eq-eqb (writtenNumber w) 0 (sym k ∙ z))
 
   pub bytes-refused : (n ≡ 0 → ⊥) → 0 ≡ bytesWritten r
-  unfolding bytesWritten
+  unfolding bytesWritten recordedNumber
   bytes-refused z = rw (e, ne-eqb (writtenNumber w) 0 (λ h. z (k ∙ h)))
 
 pub bytes-long : (r : Recorded) → r ≡ LongLine → 0 ≡ bytesWritten r
-unfolding bytesWritten
+unfolding bytesWritten recordedNumber
 bytes-long r e = rw e

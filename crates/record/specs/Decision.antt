@@ -51,12 +51,17 @@ recordBytes f = bytesRecorded (recordedOf recordLength f) [] f
 unfoldable pub recordWithin : (length : ℕ) → List ℕ → List ℕ
 recordWithin length r = cond (eqb length recordLength) r []
 
--- how many bytes were written
-unfoldable pub bytesWritten : Recorded → ℕ
-bytesWritten (Writer w) = cond (eqb (writtenNumber w) 0) recordLength 0
-bytesWritten LongLine = 0
-
 -- the writer's number; the papers give a line that is too long none
 unfoldable pub recordedNumber : Recorded → Option ℕ
 recordedNumber (Writer w) = some (writtenNumber w)
 recordedNumber LongLine = none
+
+-- eight bytes were written where there was no refusal
+abbrev pub bytesNumbered : Option ℕ → ℕ
+bytesNumbered (some n) = cond (eqb n 0) recordLength 0
+bytesNumbered none = 0
+
+-- how many bytes were written
+unfoldable pub bytesWritten : Recorded → ℕ
+unfolding recordedNumber
+bytesWritten r = bytesNumbered (recordedNumber r)

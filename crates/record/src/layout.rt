@@ -18,8 +18,6 @@ impl Values {
 
     pub const MINUTE: u64 = 16384;
 
-    pub const FLAG: u64 = 2;
-
     pub const SIZE: u64 = 16777216;
 }
 
@@ -33,9 +31,9 @@ impl Unit {
 
     pub const LINE: u64 = Unit::MINUTE * Values::MINUTE;
 
-    pub const MINUTE: u64 = Unit::AUTH * Values::FLAG;
+    pub const MINUTE: u64 = Unit::AUTH * 2;
 
-    pub const AUTH: u64 = Unit::BELOW * Values::FLAG;
+    pub const AUTH: u64 = Unit::BELOW * 2;
 
     pub const BELOW: u64 = Values::SIZE;
 }
@@ -53,8 +51,7 @@ pub fn packed(number: u8, line: u16, minute: u16, auth: bool, below: bool, size:
     ensures { λ r. ⌜ r ≡ packedBits (record { version = 1; number = number; line = line; minute = minute; auth = auth; below = below; size = size }) ⌝ }
 {
     let head = (Record::VERSION * Values::NUMBER + number as u64) * Values::LINE + line as u64;
-    let signs = ((head * Values::MINUTE + minute as u64) * Values::FLAG + bit(auth)) * Values::FLAG
-        + bit(below);
+    let signs = ((head * Values::MINUTE + minute as u64) * 2 + bit(auth)) * 2 + bit(below);
     signs * Values::SIZE + size
 }
 

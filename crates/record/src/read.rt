@@ -50,7 +50,7 @@ pub fn read_record(bytes: &[u8]) -> Record
         number,
         line: (n / Unit::LINE % Values::LINE) as u16,
         minute: WeekMinute(minute),
-        auth: n / Unit::AUTH % Values::FLAG == 1,
-        age: age_from(n / Unit::BELOW % Values::FLAG == 1, n % Values::SIZE),
+        auth: n / Unit::AUTH % 2 == 1,
+        age: age_from(n / Unit::BELOW % 2 == 1, n % Values::SIZE),
     })
 }
