@@ -1,7 +1,7 @@
 -- The laws of the printed line of a record. Assumes nothing.
-use mathlib.Core.Path.{_≡_, refl, ap}
+use mathlib.Core.Path.{_≡_}
 use mathlib.Core.Bool.{Bool, true, false}
-use mathlib.Core.List.{List, [], _∷_, _++_}
+use mathlib.Core.List.{_++_}
 use Prim.Native.Nat.{ℕ}
 use lib.IntN.{ℤ, pos, natAbs}
 use lib.Signed.{ltZ}
@@ -15,11 +15,12 @@ use Rattle.question.specs.declared.LastAuthentication.the-variants.{Never, Minu
 use Rattle.output.specs.Decimal.{decimal}
 use Rattle.record.specs.declared.Fields.{Fields}
 use Rattle.record.specs.declared.Record.{Record}
-use Rattle.record.specs.declared.Record.the-variants.{Stored, OtherVersion, UnknownNumber, BadMinute, WrongLength}
+use Rattle.record.specs.declared.Record.the-variants.{Stored}
 use Rattle.record.specs.Read.{recordTold}
 use Rattle.record.proofs.Record.{the-type}
 use denote.Enum.Declared.{tagOf}
-use types.Run.{OneOf, miss}
+use types.Run.{OneOf}
+use Rattle.record.proofs.RoundTrip.{refusals, refusal-shows-nothing}
 use Rattle.log.specs.Printed.{minutesText, ageText, authText, fieldsText, refusedText, recordText}
 
 pub auth-on : {auth : Bool} → auth ≡ true → authText auth ≡ bytes "1"
@@ -56,16 +57,6 @@ pub record-shown : (r : Record) (f : Fields) → r ≡ Stored f → recordText r
 unfolding recordText recordTold
 record-shown r f e = rw e
 
-abbrev refusals : List ℕ
-refusals = 1 ∷ 2 ∷ 3 ∷ 4 ∷ []
-
-refused-text : (r : Record) → OneOf refusals (tagOf the-type r) → recordText r ≡ refusedText (recordTold r .number)
-unfolding recordText recordTold
-refused-text (Stored f) h = absurd (miss refusals 0 tt h)
-refused-text OtherVersion h = refl
-refused-text UnknownNumber h = refl
-refused-text BadMinute h = refl
-refused-text WrongLength h = refl
-
 pub record-refused : (q r : Record) {n : ℕ} → r ≡ q → OneOf refusals (tagOf the-type r) → n ≡ recordTold r .number → recordText q ≡ refusedText n
-record-refused q r e h k = rw (← e, k) (refused-text r h)
+unfolding recordText
+record-refused q r e h k = rw (← e, k, refusal-shows-nothing r h)

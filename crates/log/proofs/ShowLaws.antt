@@ -2,15 +2,15 @@
 use mathlib.Core.Path.{_≡_, refl, sym, _∙_}
 use mathlib.Core.Bool.{Bool, true, false, cond}
 use mathlib.Core.List.{List, [], _++_}
-use Prim.Native.Nat.{ℕ, suc, _+_, _≤_, _<_}
+use Prim.Native.Nat.{ℕ, _+_, _≤_, _<_}
 use native.Mathlib.Omega.{arith}
 use lib.IntN.{ℤ, pos, natAbs}
 use lib.Signed.{ltZ}
-use lib.ListN.{length, take, length-append}
+use lib.ListN.{length, length-append}
 use Rattle.text.specs.Bytes.{bytes}
 use Rattle.text.specs.Contract.{Wrote}
 use Rattle.text.specs.declared.buffer.Filled.{Filled}
-use Rattle.text.specs.declared.buffer.Filled.the-variants.{Done, Full}
+use Rattle.text.specs.declared.buffer.Filled.the-variants.{Full}
 use Rattle.text.proofs.Buffers.{up-full}
 use Rattle.question.specs.declared.LastAuthentication.{LastAuthentication}
 use Rattle.question.specs.declared.LastAuthentication.the-variants.{Never, Minutes}

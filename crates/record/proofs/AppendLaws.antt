@@ -1,5 +1,5 @@
 -- What is written into lent bytes is the record that a log gets, or nothing. Assumes nothing.
-use mathlib.Core.Path.{_≡_, refl, sym, ap, _∙_}
+use mathlib.Core.Path.{_≡_, refl, sym, _∙_}
 use mathlib.Core.Bool.{Bool, true, false, cond}
 use mathlib.Core.List.{List, [], _++_, append-nil}
 use Prim.Native.Nat.{ℕ, _+_, _≤_}
@@ -15,7 +15,7 @@ use Rattle.record.specs.declared.Written.{Written}
 use Rattle.record.specs.declared.Written.the-variants.{Done, UnknownNumber, BadMinute, WrongLength}
 use Rattle.record.specs.declared.Recorded.{Recorded}
 use Rattle.record.specs.declared.Recorded.the-variants.{Writer, LongLine}
-use Rattle.record.specs.Layout.{recordLength, packedBits, bitsOf, packed}
+use Rattle.record.specs.Layout.{recordLength, packed}
 use Rattle.record.specs.Stored.{known, storedOf}
 use Rattle.record.specs.Write.{writtenOf, bytesAfter, writtenNumber}
 use Rattle.record.specs.Decision.{lineLimit, recordedOf, bytesRecorded, recordBytes, recordWithin, recordedNumber, bytesWritten}

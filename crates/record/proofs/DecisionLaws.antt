@@ -9,7 +9,6 @@ use native.Mathlib.Omega.{arith}
 use borrow.Author.Tests.{lt-ltb, le-ltb}
 use lib.Dec.{leb}
 use lib.ListN.{length}
-use Rattle.text.proofs.Laws.{clash}
 use Rattle.fault.proofs.Numbers.{cause-number}
 use Rattle.question.specs.declared.WeekMinute.{WeekMinute}
 use Rattle.question.specs.declared.LastAuthentication.{LastAuthentication}
@@ -22,7 +21,6 @@ use Rattle.answer.specs.Meaning.{Asked, asks, readTable, answerOf}
 use Rattle.answer.proofs.Answer.{the-type}
 use denote.Enum.Declared.{tagOf}
 use types.Run.{OneOf, miss}
-use Rattle.record.specs.declared.Fields.{Fields}
 use Rattle.record.specs.declared.Written.{Written}
 use Rattle.record.specs.declared.Written.the-variants.{Done}
 use Rattle.record.specs.declared.Recorded.the-variants.{Writer, LongLine}

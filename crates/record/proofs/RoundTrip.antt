@@ -4,27 +4,26 @@ use mathlib.Core.Bool.{Bool, true, false, cond}
 use mathlib.Core.List.{List, [], _∷_, _++_, append-assoc, append-nil}
 use mathlib.Core.Logic.{_⊎_}
 use mathlib.Core.Option.{none}
-use Prim.Native.Nat.{ℕ, zero, suc, min, _+_, _*_, _/_, _%_, _^_, _≤_, _<_}
+use Prim.Native.Nat.{ℕ, zero, suc, _+_, _*_, _/_, _%_, _^_, _≤_, _<_}
 use native.Mathlib.Nat.{pow-suc, div-one, div-div-eq-div-mul, div-add-mod'}
 use native.Mathlib.Omega.{arith}
 use borrow.Author.Tests.{eq-eqb, lt-ltb, ltb-true, eqb-true}
 use lib.Dec.{eqb, ltb, lit<}
-use lib.IntN.{ℤ, pos, negsuc, natAbs}
-use lib.Signed.{ltZ}
 use lib.ListN.{length, length-append}
 use Rattle.text.specs.Lists.{all}
 use Rattle.text.proofs.Laws.{both-true, pick-of}
-use Rattle.question.specs.declared.LastAuthentication.{LastAuthentication}
-use Rattle.question.specs.declared.LastAuthentication.the-variants.{Never, Minutes}
 use Rattle.record.specs.declared.Fields.{Fields}
 use Rattle.record.specs.declared.Written.{Written}
 use Rattle.record.specs.declared.Record.{Record}
 use Rattle.record.specs.declared.Record.the-variants.{Stored, OtherVersion, UnknownNumber, BadMinute, WrongLength}
-use Rattle.record.specs.Layout.{recordLength, Bits, flag, packedBits, unpackedBits, bytesOf, numberFrom, isBelow, sizeOf, ageFrom, bitsOf, fieldsOf, packed}
+use Rattle.record.specs.Layout.{recordLength, Bits, flag, packedBits, unpackedBits, bytesOf, numberFrom, sizeOf, bitsOf, fieldsOf, packed}
 use Rattle.record.specs.Stored.{known, keepsLine, storedOf}
 use Rattle.record.specs.Read.{readBits, recordIn, recordTold}
 use Rattle.record.specs.Write.{writtenOf, bytesAfter, Writes, writtenNumber}
 use Rattle.record.specs.Contract.{allBytes}
+use Rattle.record.proofs.Record.{the-type}
+use denote.Enum.Declared.{tagOf}
+use types.Run.{OneOf, miss}
 use Rattle.record.proofs.Ages.{age-back, sign-back, size-back, stored-most}
 use Rattle.record.proofs.Keeping.{known-most, known-of}
 use Rattle.record.proofs.Packing.{flag-most, grow}
@@ -290,6 +289,18 @@ refused-shows-nothing OtherVersion h = refl
 refused-shows-nothing UnknownNumber h = refl
 refused-shows-nothing BadMinute h = refl
 refused-shows-nothing WrongLength h = refl
+
+-- the refusals, as a match on the answer sees them
+abbrev pub refusals : List ℕ
+refusals = 1 ∷ 2 ∷ 3 ∷ 4 ∷ []
+
+pub refusal-shows-nothing : (r : Record) → OneOf refusals (tagOf the-type r) → recordTold r .shown ≡ none
+unfolding recordTold
+refusal-shows-nothing (Stored f) h = absurd (miss refusals 0 tt h)
+refusal-shows-nothing OtherVersion h = refl
+refusal-shows-nothing UnknownNumber h = refl
+refusal-shows-nothing BadMinute h = refl
+refusal-shows-nothing WrongLength h = refl
 
 -- and the writer leaves the bytes as they were
 pub refused-writes-nothing : (g : Fields) (old new : List ℕ) (r : Written) → Writes g old new r → (writtenNumber r ≡ 0 → ⊥) → new ≡ old

@@ -1,9 +1,8 @@
 // The fields in 64 bits, most significant first, and the bytes of a number.
 use super::Record;
 ghost use mathlib.Core.Path.{_≡_};
-ghost use mathlib.Core.List.{_++_};
 ghost use Prim.Native.Nat.{_<_};
-ghost use lib.ListN.{length, drop};
+ghost use lib.ListN.{length};
 ghost use Rattle.record.specs.Layout.{flag, packedBits, bytesOf, numberFrom};
 
 // How many values each field's bits hold.

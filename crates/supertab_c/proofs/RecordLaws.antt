@@ -1,6 +1,6 @@
 -- The calls on log records: the numbers of the fields, and each call as a whole. Assumes nothing.
 use mathlib.Core.Path.{_≡_, refl, sym, ap, _∙_}
-use mathlib.Core.Bool.{Bool, true, false}
+use mathlib.Core.Bool.{Bool}
 use mathlib.Core.List.{List, [], _∷_, _++_}
 use Prim.Native.Nat.{ℕ, _≤_, _<_}
 use native.Mathlib.Omega.{arith}
@@ -14,12 +14,13 @@ use Rattle.question.specs.declared.LastAuthentication.the-variants.{Never, Minu
 use Rattle.record.specs.declared.Fields.{Fields}
 use Rattle.record.specs.declared.Written.{Written}
 use Rattle.record.specs.declared.Record.{Record}
-use Rattle.record.specs.declared.Record.the-variants.{Stored, OtherVersion, UnknownNumber, BadMinute, WrongLength}
-use Rattle.record.specs.Write.{writtenOf, bytesAfter, Writes, writtenNumber}
+use Rattle.record.specs.declared.Record.the-variants.{Stored}
+use Rattle.record.specs.Write.{Writes, writtenNumber}
 use Rattle.record.specs.Read.{recordIn, recordTold}
 use Rattle.record.proofs.Record.{the-type}
 use denote.Enum.Declared.{tagOf}
-use types.Run.{OneOf, miss}
+use types.Run.{OneOf}
+use Rattle.record.proofs.RoundTrip.{refusals, refusal-shows-nothing}
 use Rattle.supertab_c.specs.Report.{bit}
 use Rattle.supertab_c.specs.Call.{minuteOf, lastOf, shortReport}
 use Rattle.supertab_c.specs.Record.{givenBy, wroteRecord, writeCall, fieldsLength, authenticatedOf, ageOf, fieldNumbers, readNumbers, tellsRecord, readCall}
@@ -87,13 +88,6 @@ module _ (s : List ℕ) (old : List ℤ) (h : fieldsLength ≤ length old) (r : 
   unfolding tellsRecord recordTold
   read-stored f new k n = rw n (sym (told ∙ rw k))
 
-  pub read-refused : (n : ℕ) → OneOf (1 ∷ 2 ∷ 3 ∷ 4 ∷ []) (tagOf the-type r) → n ≡ recordTold r .number → readNumbers n old ≡ readCall s old
-  unfolding tellsRecord recordTold
-  read-refused n k q = sym (told ∙ refused r k ∙ rw q)
-    where
-      refused : (x : Record) → OneOf (1 ∷ 2 ∷ 3 ∷ 4 ∷ []) (tagOf the-type x) → tellsRecord (recordTold x) old ≡ readNumbers (recordTold x .number) old
-      refused (Stored f) j = absurd (miss (1 ∷ 2 ∷ 3 ∷ 4 ∷ []) 0 tt j)
-      refused OtherVersion j = refl
-      refused UnknownNumber j = refl
-      refused BadMinute j = refl
-      refused WrongLength j = refl
+  pub read-refused : (n : ℕ) → OneOf refusals (tagOf the-type r) → n ≡ recordTold r .number → readNumbers n old ≡ readCall s old
+  unfolding tellsRecord
+  read-refused n k q = sym (told ∙ rw (refusal-shows-nothing r k, q))
