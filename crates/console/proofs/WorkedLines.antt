@@ -9,7 +9,7 @@ use Rattle.output.specs.Decimal.{written, decimal}
 use Rattle.console.specs.Printed.{idText, grantText, stopText, refusalText, printed}
 use Rattle.console.specs.Console.{response}
 
-pub table : List ℕ
+unfoldable pub table : List ℕ
 table =
     bytes ":global patterns=shell\n"
     ++ bytes ":define Crew ann,bo\n"
@@ -17,7 +17,7 @@ table =
     ++ bytes "batlog /opt/batlog ann@van* time~{>=17:30/mon,<=8/tues} !time~0-1/tues\n"
     ++ bytes "cal/* /opt/*/run group~bench nargs=0-2\n"
 
-pub questions : List (List ℕ)
+unfoldable pub questions : List (List ℕ)
 questions =
     bytes "setclock ann - van2 1049 15"
     ∷ bytes "setclock tmp - van2 1049 15"

@@ -69,7 +69,8 @@ pub fn answer_line(table: &[u8], line: &[u8], buffer: &mut [u8]) -> Answered
     }
 }
 
-// One question line, without its newline, is answered by one printed line; where eight bytes are lent for the log, they get the record.
+// One question line, without its newline, is answered by one printed line; eight bytes that are lent for the log get the
+// record of the answer.
 pub fn respond(table: &[u8], line: &[u8], out: &mut [u8], log: &mut [u8]) -> Response
     ensures { λ r. ⌜ Responds (now (table .entry)) (now (line .entry)) (now (out .entry)) (now (out .exit)) (now (log .entry)) (now (log .exit)) r ⌝ }
 {

@@ -40,8 +40,8 @@ impl Log {
         }
     }
 
-    // Appends the records that wait, with one write, so that another process that appends never comes between their bytes. After
-    // a write that fails or takes only a part, which is told, nothing is appended any more.
+    // Appends the records that wait, with one write, so that another process that appends never comes between their
+    // bytes. After a write that fails or takes only a part, which is told, nothing is appended any more.
     pub fn append(self, name: &[u8], records: &[u8]) -> Log
         ensures { λ r. ⌜ r .waiting ≡ 0 ⌝ }
     {

@@ -36,7 +36,7 @@ fn auth_of(answer: Answer) -> bool
     }
 }
 
-// Writes the record of an answer to a question with this minute and this age; the bytes are changed only where the writer is done.
+// Writes the record of an answer to a question with this minute and this age; whatever is refused leaves the bytes.
 pub fn record_answer(
     answer: Answer,
     minute: WeekMinute,

@@ -48,7 +48,8 @@ fn line_buffer() -> [u8; 32769]
     [0; 32769]
 }
 
-// Appends the records that wait to the log, and then writes out the answers that wait, so that no answer is seen before its record is kept.
+// Appends the records that wait to the log, and then writes out the answers that wait, so that no answer is seen before
+// its record is kept.
 fn write_waiting(name: &[u8], out: &[u8], records: &[u8], progress: Progress) -> Progress
     requires { ⌜ progress .waiting ≤ length (now out) ⌝ }
     ensures { λ r. ⌜ (r .length ≡ progress .length) × (r .waiting ≡ 0) × (r .log .waiting ≡ 0) ⌝ }

@@ -10,7 +10,7 @@ use streams::input::load_name;
 use streams::message;
 use text::slice::equal;
 
-// Answers the questions of standard input from a table, with the log that an argument names; without one where that cannot be.
+// Answers the questions of standard input from a table, with the log that an argument names, if it can be had.
 fn answer_logged(table: &[u8], i: usize) {
     let mut name = io::buffer();
     match load_name(i, b"the name of the log", &mut name) {
@@ -22,8 +22,8 @@ fn answer_logged(table: &[u8], i: usize) {
     }
 }
 
-// Answers the questions of standard input, with the log and the table that these arguments name. The table is read before the log
-// is opened, so that a wrong table leaves no log behind.
+// Answers the questions of standard input, with the log and the table that these arguments name. The table is read
+// before the log is opened, so that a wrong table leaves no log behind.
 pub fn answer(i: usize, j: usize) {
     let mut bytes = table::table_buffer();
     let Loaded::Bytes(n) = table::load(j, &mut bytes) else {
