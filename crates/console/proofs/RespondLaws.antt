@@ -25,7 +25,8 @@ use Rattle.record.specs.declared.Fields.{Fields}
 use Rattle.record.specs.declared.Recorded.{Recorded}
 use Rattle.record.specs.Stored.{known}
 use Rattle.record.specs.Write.{writtenOf, bytesAfter}
-use Rattle.record.specs.Decision.{fieldsBy, recordedOf, bytesRecorded, Records, recordBytes, bytesWritten}
+use Rattle.record.specs.Decision.{fieldsBy, recordedOf, bytesRecorded, recordBytes}
+use Rattle.record.specs.Contract.{Records, bytesWritten}
 use Rattle.record.proofs.AppendLaws.{recorded-laid, recorded-count}
 use Rattle.console.specs.declared.respond.Answered.{Answered}
 use Rattle.console.specs.declared.respond.Response.the-variants.{Written}

@@ -19,7 +19,7 @@ use Rattle.answer.specs.declared.Answer.the-variants.{Permit, Password, NoEntry
 use Rattle.answer.specs.Answer.{tableLimit, result}
 use Rattle.answer.specs.Meaning.{Asked}
 use Rattle.console.specs.QuestionLine.{lineLimit, askedIn}
-use Rattle.record.specs.Decision.{recordWithin}
+use Rattle.record.specs.Contract.{recordWithin}
 use Rattle.console.specs.Console.{outcomeFor, response, logged}
 use Rattle.console.specs.declared.respond.Answered.{Answered}
 use Rattle.console.specs.declared.respond.Response.{Response}

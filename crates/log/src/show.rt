@@ -11,7 +11,7 @@ ghost use mathlib.Core.Bool.{true};
 ghost use mathlib.Core.Logic.{_⊎_};
 ghost use Prim.Native.Nat.{_+_, _≤_, _<_};
 ghost use lib.ListN.{length};
-ghost use Rattle.log.specs.Show.{Room, Within, Shown};
+ghost use Rattle.log.specs.Contract.{Room, Within, Shown};
 
 // How far a log has been read and printed.
 struct Progress {

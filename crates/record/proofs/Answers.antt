@@ -13,7 +13,8 @@ use Rattle.record.specs.declared.Record.the-variants.{Stored, OtherVersi
 use Rattle.record.specs.Layout.{packedBits, unpackedBits, bytesOf, numberFrom, isBelow, sizeOf, ageFrom, bitsOf, fieldsOf, packed}
 use Rattle.record.specs.Stored.{known, keepsAuth, keepsLine, storedAge, storedOf}
 use Rattle.record.specs.Read.{readBits, recordIn}
-use Rattle.record.specs.Write.{writtenOf, bytesAfter, Writes}
+use Rattle.record.specs.Write.{writtenOf, bytesAfter}
+use Rattle.record.specs.Contract.{Writes}
 use Rattle.record.specs.declared.Written.the-variants.{Done, UnknownNumber as NotWritten, BadMinute as NoMinute, WrongLength as NoRoom}
 
 module _ (s : List ℕ) where

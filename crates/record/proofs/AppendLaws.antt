@@ -18,7 +18,8 @@ use Rattle.record.specs.declared.Recorded.the-variants.{Writer, LongLine
 use Rattle.record.specs.Layout.{recordLength, packed}
 use Rattle.record.specs.Stored.{known, storedOf}
 use Rattle.record.specs.Write.{writtenOf, bytesAfter, writtenNumber}
-use Rattle.record.specs.Decision.{lineLimit, recordedOf, bytesRecorded, recordBytes, recordWithin, recordedNumber, bytesWritten}
+use Rattle.record.specs.Decision.{lineLimit, recordedOf, bytesRecorded, recordBytes, recordedNumber}
+use Rattle.record.specs.Contract.{recordWithin, bytesWritten}
 use Rattle.record.proofs.RoundTrip.{packed-length}
 
 -- bytes laid over as many others

@@ -25,8 +25,8 @@ use Rattle.record.specs.declared.Written.{Written}
 use Rattle.record.specs.declared.Written.the-variants.{Done}
 use Rattle.record.specs.declared.Recorded.the-variants.{Writer, LongLine}
 use Rattle.record.specs.Layout.{recordLength}
-use Rattle.record.specs.Write.{Writes}
-use Rattle.record.specs.Decision.{authBeside, fieldsBy, lineLimit, recordedOf, bytesRecorded, Records}
+use Rattle.record.specs.Decision.{authBeside, fieldsBy, lineLimit, recordedOf, bytesRecorded}
+use Rattle.record.specs.Contract.{Writes, Records}
 use Rattle.record.proofs.RoundTrip.{writer-takes}
 use Rattle.record.proofs.WithinLaws.{Within, answer-within}
 

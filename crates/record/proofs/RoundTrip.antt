@@ -19,8 +19,8 @@ use Rattle.record.specs.declared.Record.the-variants.{Stored, OtherVersi
 use Rattle.record.specs.Layout.{recordLength, Bits, flag, packedBits, unpackedBits, bytesOf, numberFrom, sizeOf, bitsOf, fieldsOf, packed}
 use Rattle.record.specs.Stored.{known, keepsLine, storedOf}
 use Rattle.record.specs.Read.{readBits, recordIn, recordTold}
-use Rattle.record.specs.Write.{writtenOf, bytesAfter, Writes, writtenNumber}
-use Rattle.record.specs.Contract.{allBytes}
+use Rattle.record.specs.Write.{writtenOf, bytesAfter, writtenNumber}
+use Rattle.record.specs.Contract.{allBytes, Writes}
 use Rattle.record.proofs.Record.{the-type}
 use denote.Enum.Declared.{tagOf}
 use types.Run.{OneOf, miss}

@@ -1,10 +1,9 @@
 -- The record of what the call answered (02 (ii): "eight bytes per decision").
 use Prim.Native.Nat.{ℕ}
-use mathlib.Core.Path.{_≡_}
 use mathlib.Core.Bool.{Bool, false, cond}
 use mathlib.Core.List.{List, []}
 use mathlib.Core.Option.{Option, none, some}
-use lib.Dec.{eqb, ltb}
+use lib.Dec.{ltb}
 use lib.ListN.{length}
 use Rattle.question.specs.declared.WeekMinute.{WeekMinute}
 use Rattle.question.specs.declared.LastAuthentication.{LastAuthentication}
@@ -38,30 +37,11 @@ unfoldable pub bytesRecorded : Recorded → List ℕ → Fields → List ℕ
 bytesRecorded (Writer w) old f = bytesAfter w old f
 bytesRecorded LongLine old f = old
 
--- an outcome was given to be recorded: the answer, and the bytes
-pub record Records (o : Outcome) (minute : WeekMinute) (age : LastAuthentication) (old new : List ℕ) (r : Recorded) : Type 0 where
-  pub answer : r ≡ recordedOf (length old) (fieldsBy o minute age)
-  pub bytes : new ≡ bytesRecorded r old (fieldsBy o minute age)
-
 -- the record that a log gets for what the writer is given: eight bytes, or none where it is refused
 unfoldable pub recordBytes : Fields → List ℕ
 recordBytes f = bytesRecorded (recordedOf recordLength f) [] f
-
--- what is written into lent bytes: nothing, where they are not eight
-unfoldable pub recordWithin : (length : ℕ) → List ℕ → List ℕ
-recordWithin length r = cond (eqb length recordLength) r []
 
 -- the writer's number; the papers give a line that is too long none
 unfoldable pub recordedNumber : Recorded → Option ℕ
 recordedNumber (Writer w) = some (writtenNumber w)
 recordedNumber LongLine = none
-
--- eight bytes were written where there was no refusal
-abbrev pub bytesNumbered : Option ℕ → ℕ
-bytesNumbered (some n) = cond (eqb n 0) recordLength 0
-bytesNumbered none = 0
-
--- how many bytes were written
-unfoldable pub bytesWritten : Recorded → ℕ
-unfolding recordedNumber
-bytesWritten r = bytesNumbered (recordedNumber r)

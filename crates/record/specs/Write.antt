@@ -1,6 +1,5 @@
 -- What the writer answers and writes (02 (ii)).
 use Prim.Native.Nat.{ℕ}
-use mathlib.Core.Path.{_≡_}
 use mathlib.Core.Bool.{cond}
 use mathlib.Core.List.{List}
 use lib.Dec.{eqb, ltb}
@@ -28,11 +27,6 @@ bytesAfter Done old f = packed (storedOf f)
 bytesAfter UnknownNumber old f = old
 bytesAfter BadMinute old f = old
 bytesAfter WrongLength old f = old
-
--- fields were given to the writer: its answer, and the bytes
-pub record Writes (f : Fields) (old new : List ℕ) (r : Written) : Type 0 where
-  pub answer : r ≡ writtenOf (length old) f
-  pub bytes : new ≡ bytesAfter r old f
 
 -- "Refusals, own list"; 0 is none
 unfoldable pub writtenNumber : Written → ℕ

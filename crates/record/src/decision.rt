@@ -9,7 +9,8 @@ ghost use Prim.Native.Nat.{ℕ};
 ghost use mathlib.Core.Path.{_≡_};
 ghost use mathlib.Core.List.{List};
 ghost use Rattle.answer.specs.Answer.{result, decidingLine, toldOf};
-ghost use Rattle.record.specs.Decision.{authBeside, Records};
+ghost use Rattle.record.specs.Decision.{authBeside};
+ghost use Rattle.record.specs.Contract.{Records};
 
 // The deciding line, 0 where there is none.
 fn line_of(answer: Answer) -> usize

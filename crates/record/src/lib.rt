@@ -2,7 +2,7 @@
 use question::LastAuthentication;
 use question::WeekMinute;
 ghost use mathlib.Core.Path.{_≡_};
-ghost use Rattle.record.specs.Decision.{bytesWritten};
+ghost use Rattle.record.specs.Contract.{bytesWritten};
 ghost use Rattle.record.specs.Read.{recordTold};
 ghost use Rattle.record.specs.Write.{writtenNumber};
 

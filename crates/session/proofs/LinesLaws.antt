@@ -11,7 +11,7 @@ use lib.Seq.{length-take-le, take-all, take-at, take-suc-set, take-append-add, t
 use Rattle.text.specs.Buffer.{laid}
 use Rattle.text.proofs.Laws.{clash}
 use Rattle.text.proofs.Buffers.{laid-length, laid-take}
-use Rattle.record.specs.Decision.{recordWithin}
+use Rattle.record.specs.Contract.{recordWithin}
 use Rattle.console.specs.Console.{response, logged}
 use Rattle.console.specs.Contract.{loggedWithin, Responds}
 use Rattle.console.specs.declared.respond.Response.{Response}

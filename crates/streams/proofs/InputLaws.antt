@@ -8,7 +8,7 @@ use Rattle.io.specs.Counts.{Counts}
 use Rattle.io.proofs.Counting.{counts}
 use Rattle.streams.specs.declared.input.Loaded.{Loaded}
 use Rattle.streams.specs.declared.input.Loaded.the-variants.{Bytes, Failed}
-use Rattle.streams.specs.Input.{bytesTold, LoadedIn}
+use Rattle.streams.specs.Contract.{bytesTold, LoadedIn}
 
 -- the bytes that are told are in the buffer
 pub loaded-bytes : {buffer : List ℕ} {r : Loaded} {n : ℕ} → LoadedIn buffer r → r ≡ Bytes n → Counts n buffer

@@ -1,6 +1,6 @@
 // Bytes from a file, and the name of one.
 use super::message;
-ghost use Rattle.streams.specs.Input.{LoadedIn};
+ghost use Rattle.streams.specs.Contract.{LoadedIn};
 
 // How many bytes were put at the beginning of a lent buffer.
 pub enum Loaded {

@@ -15,7 +15,7 @@ use text::buffer::Filled;
 use text::slice::equal;
 ghost use mathlib.Core.Path.{_≡_};
 ghost use lib.ListN.{length};
-ghost use Rattle.streams.specs.Input.{LoadedIn};
+ghost use Rattle.streams.specs.Contract.{LoadedIn};
 
 // The longest report: a name, words, and a line of 32,768 bytes with a caret below its end.
 fn report_buffer() -> [u8; 81920]

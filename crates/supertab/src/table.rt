@@ -5,7 +5,7 @@ use streams::input::read_all;
 use streams::message;
 ghost use mathlib.Core.Path.{_≡_};
 ghost use lib.ListN.{length};
-ghost use Rattle.streams.specs.Input.{LoadedIn};
+ghost use Rattle.streams.specs.Contract.{LoadedIn};
 
 // One byte more than a table may have, which is enough to see that it is too long.
 pub fn table_buffer() -> [u8; 32769]

@@ -15,7 +15,8 @@ use Rattle.record.specs.declared.Fields.{Fields}
 use Rattle.record.specs.declared.Written.{Written}
 use Rattle.record.specs.declared.Record.{Record}
 use Rattle.record.specs.declared.Record.the-variants.{Stored}
-use Rattle.record.specs.Write.{Writes, writtenNumber}
+use Rattle.record.specs.Write.{writtenNumber}
+use Rattle.record.specs.Contract.{Writes}
 use Rattle.record.specs.Read.{recordIn, recordTold}
 use Rattle.record.proofs.Record.{the-type}
 use denote.Enum.Declared.{tagOf}

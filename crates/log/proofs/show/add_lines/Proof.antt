@@ -2,7 +2,7 @@ use mathlib.Core.Path.{_≡_}
 use Prim.Native.Nat.{_-_, _≤_}
 use borrow.Author.Needs.{needs}
 use lib.ListN.{length}
-use Rattle.log.specs.Show.{Room}
+use Rattle.log.specs.Contract.{Room}
 use Rattle.log.proofs.show.add_lines.Statement.{statement}
 use Rattle.log.proofs.show.add_lines.Tie as tie
 

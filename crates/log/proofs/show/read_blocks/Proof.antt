@@ -1,7 +1,7 @@
 use mathlib.Core.Path.{_≡_}
 use borrow.Author.Needs.{needs}
 use lib.ListN.{length}
-use Rattle.log.specs.Show.{Within}
+use Rattle.log.specs.Contract.{Within}
 use Rattle.log.proofs.show.read_blocks.Statement.{statement}
 use Rattle.log.proofs.show.read_blocks.Tie as tie
 

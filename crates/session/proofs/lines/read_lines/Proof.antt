@@ -1,7 +1,7 @@
 use mathlib.Core.Path.{_≡_}
 use borrow.Author.Needs.{needs}
 use lib.ListN.{length}
-use Rattle.session.specs.Lines.{Within}
+use Rattle.session.specs.Contract.{Within}
 use Rattle.session.proofs.lines.read_lines.Statement.{statement}
 use Rattle.session.proofs.lines.read_lines.Tie as tie
 

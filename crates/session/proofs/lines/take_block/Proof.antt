@@ -2,7 +2,7 @@ use mathlib.Core.Path.{_≡_}
 use Prim.Native.Nat.{_≤_, _-_}
 use borrow.Author.Needs.{needs}
 use lib.ListN.{length}
-use Rattle.session.specs.Lines.{Within}
+use Rattle.session.specs.Contract.{Within}
 use Rattle.session.proofs.lines.take_block.Statement.{statement}
 use Rattle.session.proofs.lines.take_block.Tie as tie
 
