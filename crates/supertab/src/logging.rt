@@ -4,7 +4,7 @@ use libc::STDIN_FILENO;
 use log::file::Log;
 use log::file::open;
 use log::show::show;
-use session::lines::answer_lines;
+use responder::lines::answer_lines;
 use streams::input::Loaded;
 use streams::input::load_name;
 use streams::message;

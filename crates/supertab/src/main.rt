@@ -7,7 +7,7 @@ mod table; // the table, from the file that an argument names
 use arguments::Request;
 use arguments::requested;
 use log::file::Log;
-use session::lines::answer_lines;
+use responder::lines::answer_lines;
 use streams::input::Loaded;
 use streams::message;
 use streams::standard_output;

@@ -1,8 +1,8 @@
 use mathlib.Core.Path.{ap}
 use native.Mathlib.Omega.{arith}
 use borrow.Author.Needs.{needs}
-use Rattle.session.proofs.lines.take_byte.Statement.{statement}
-use Rattle.session.proofs.lines.take_byte.Tie as tie
+use Rattle.responder.proofs.lines.take_byte.Statement.{statement}
+use Rattle.responder.proofs.lines.take_byte.Tie as tie
 
 end-line-requires : tie.Need-end-line-requires
 end-line-requires c κs = search needs

@@ -6,7 +6,7 @@ use mathlib.Core.Logic.{_⊎_}
 use Prim.Native.Nat.{ℕ, _≤_}
 use lib.ListN.{length, take}
 use Rattle.console.specs.Console.{response, logged}
-use Rattle.session.specs.declared.lines.Progress.{Progress}
+use Rattle.responder.specs.declared.lines.Progress.{Progress}
 
 -- the answers and the records that wait are in their buffers, which hold one more of each at least
 abbrev pub Held : (out records : ℕ) → Progress → Type 0

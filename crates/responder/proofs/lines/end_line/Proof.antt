@@ -1,8 +1,8 @@
 use native.Mathlib.Omega.{arith}
-use Rattle.session.proofs.LinesLaws.{goes-on}
+use Rattle.responder.proofs.LinesLaws.{goes-on}
 use borrow.Author.Needs.{needs}
-use Rattle.session.proofs.lines.end_line.Statement.{statement}
-use Rattle.session.proofs.lines.end_line.Tie as tie
+use Rattle.responder.proofs.lines.end_line.Statement.{statement}
+use Rattle.responder.proofs.lines.end_line.Tie as tie
 
 make-room-requires : tie.Need-make-room-requires
 make-room-requires c κs = search needs

@@ -2,9 +2,9 @@ use mathlib.Core.Path.{_≡_}
 use Prim.Native.Nat.{_≤_, _-_}
 use borrow.Author.Needs.{needs}
 use lib.ListN.{length}
-use Rattle.session.specs.Contract.{Within}
-use Rattle.session.proofs.lines.take_block.Statement.{statement}
-use Rattle.session.proofs.lines.take_block.Tie as tie
+use Rattle.responder.specs.Contract.{Within}
+use Rattle.responder.proofs.lines.take_block.Statement.{statement}
+use Rattle.responder.proofs.lines.take_block.Tie as tie
 
 abbrev Inv-loop : tie.InvT-loop
 Inv-loop block name table line₀ out₀ records₀ progress₀ i₀ line out records progress i = (i ≤ length block) × Within (length line) (length out) (length records) progress × (length line ≡ length line₀) × (length out ≡ length out₀) × (length records ≡ length records₀)

@@ -1,7 +1,7 @@
-use Rattle.session.proofs.LinesLaws.{end-on, end-off}
+use Rattle.responder.proofs.LinesLaws.{end-on, end-off}
 use borrow.Author.Needs.{needs}
-use Rattle.session.proofs.lines.record_end.Statement.{statement}
-use Rattle.session.proofs.lines.record_end.Tie as tie
+use Rattle.responder.proofs.lines.record_end.Statement.{statement}
+use Rattle.responder.proofs.lines.record_end.Tie as tie
 
 add-result : tie.Need-add-result
 add-result c = search needs

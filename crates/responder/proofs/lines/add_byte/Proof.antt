@@ -1,9 +1,9 @@
 use native.Mathlib.Omega.{arith}
 use lib.ListN.{length-set}
-use Rattle.session.proofs.LinesLaws.{kept-byte, skipped-byte}
+use Rattle.responder.proofs.LinesLaws.{kept-byte, skipped-byte}
 use borrow.Author.Needs.{needs}
-use Rattle.session.proofs.lines.add_byte.Statement.{statement}
-use Rattle.session.proofs.lines.add_byte.Tie as tie
+use Rattle.responder.proofs.lines.add_byte.Statement.{statement}
+use Rattle.responder.proofs.lines.add_byte.Tie as tie
 
 slice-write-line : tie.Need-slice-write-line
 slice-write-line c = search needs

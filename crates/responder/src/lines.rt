@@ -13,7 +13,7 @@ ghost use mathlib.Core.Bool.{true, cond};
 ghost use mathlib.Core.Logic.{_⊎_};
 ghost use Prim.Native.Nat.{_+_, _≤_, _<_};
 ghost use lib.ListN.{length};
-ghost use Rattle.session.specs.Contract.{Held, Within, Longer, Put, Answered};
+ghost use Rattle.responder.specs.Contract.{Held, Within, Longer, Put, Answered};
 
 // How far the input has been read and answered.
 pub struct Progress {

@@ -6,10 +6,10 @@ use native.Mathlib.Omega.{arith}
 use lib.ListN.{length, take}
 use Rattle.text.proofs.Laws.{part-length}
 use Rattle.console.specs.Console.{response, logged}
-use Rattle.session.proofs.LinesLaws.{end-most, response-room, response-behind, record-room, record-behind, small-buffer}
+use Rattle.responder.proofs.LinesLaws.{end-most, response-room, response-behind, record-room, record-behind, small-buffer}
 use borrow.Author.Needs.{needs}
-use Rattle.session.proofs.lines.add_answer.Statement.{statement}
-use Rattle.session.proofs.lines.add_answer.Tie as tie
+use Rattle.responder.proofs.lines.add_answer.Statement.{statement}
+use Rattle.responder.proofs.lines.add_answer.Tie as tie
 
 record-end-requires : tie.Need-record-end-requires
 record-end-requires c κs = search needs

@@ -2,8 +2,8 @@ use mathlib.Core.Path.{ap}
 use native.Mathlib.Omega.{arith}
 use Rattle.streams.proofs.InputLaws.{loaded-bytes}
 use borrow.Author.Needs.{needs}
-use Rattle.session.proofs.lines.read_block.Statement.{statement}
-use Rattle.session.proofs.lines.read_block.Tie as tie
+use Rattle.responder.proofs.lines.read_block.Statement.{statement}
+use Rattle.responder.proofs.lines.read_block.Tie as tie
 
 large-buffer-requires : tie.Need-large-buffer-requires
 large-buffer-requires c κs = search needs

@@ -2,8 +2,8 @@ use mathlib.Core.Path.{refl}
 use mathlib.Core.Logic.{inl, inr}
 use native.Mathlib.Omega.{arith}
 use borrow.Author.Needs.{needs}
-use Rattle.session.proofs.lines.make_room.Statement.{statement}
-use Rattle.session.proofs.lines.make_room.Tie as tie
+use Rattle.responder.proofs.lines.make_room.Statement.{statement}
+use Rattle.responder.proofs.lines.make_room.Tie as tie
 
 sub-if1 : tie.Need-sub-if1
 sub-if1 c = search needs

@@ -1,9 +1,9 @@
 use mathlib.Core.Path.{_≡_}
 use borrow.Author.Needs.{needs}
 use lib.ListN.{length}
-use Rattle.session.specs.Contract.{Within}
-use Rattle.session.proofs.lines.read_lines.Statement.{statement}
-use Rattle.session.proofs.lines.read_lines.Tie as tie
+use Rattle.responder.specs.Contract.{Within}
+use Rattle.responder.proofs.lines.read_lines.Statement.{statement}
+use Rattle.responder.proofs.lines.read_lines.Tie as tie
 
 abbrev Inv-loop : tie.InvT-loop
 Inv-loop name table line₀ out₀ records₀ progress₀ turns₀ line out records progress turns = Within (length line) (length out) (length records) progress × (length line ≡ length line₀) × (length out ≡ length out₀) × (length records ≡ length records₀)

@@ -1,8 +1,8 @@
 use mathlib.Core.Path.{ap}
 use native.Mathlib.Omega.{arith}
 use borrow.Author.Needs.{needs}
-use Rattle.session.proofs.lines.finish.Statement.{statement}
-use Rattle.session.proofs.lines.finish.Tie as tie
+use Rattle.responder.proofs.lines.finish.Statement.{statement}
+use Rattle.responder.proofs.lines.finish.Tie as tie
 
 stopped-requires : tie.Need-stopped-requires
 stopped-requires c κs = search needs
