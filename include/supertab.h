@@ -1,8 +1,9 @@
 /* supertab.h: who may run which command, from a rule table in the style of super.tab.
  *
  * supertab_answer takes a table, a question and two lent buffers, and gives a numbered answer. supertab_record_write
- * packs such an answer into the eight bytes of a log record, supertab_record_read reads one back. They keep nothing
- * between calls, need no heap and may be called from several threads at once. Link libsupertab_c.a.
+ * packs such an answer into the eight bytes of a log record, supertab_record_read reads one back; supertab_figures_new
+ * and supertab_figures_feed count such records. They keep nothing between calls, need no heap and may be called from
+ * several threads at once. Link libsupertab_c.a.
  *
  * For C11 and for C++. The manual page supertab(1) has the rules of a table in brief.
  */
@@ -256,6 +257,72 @@ uint8_t supertab_record_write(uint8_t number, uint16_t line, uint32_t minute, bo
  */
 uint8_t supertab_record_read(const uint8_t *record, size_t record_length,
                              int64_t *fields, size_t fields_length);
+
+/* The result of the two functions below. */
+enum {
+    /* The figures are written. */
+    SUPERTAB_FIGURES_DONE = 0,
+    /* The bytes of the batch are no multiple of eight: nothing of it was looked at, nothing was written. */
+    SUPERTAB_FIGURES_NOT_WHOLE = 1,
+    /* Records of the batch lie past the limit of SUPERTAB_FIGURES_LIMIT; those before them count. */
+    SUPERTAB_FIGURES_PAST_LIMIT = 2,
+    /* What is lent is too short, or its numbers are no figures: nothing was looked at, nothing was written. */
+    SUPERTAB_FIGURES_UNUSABLE = 255
+};
+
+enum {
+    /* The fewest numbers that are lent for the figures. */
+    SUPERTAB_FIGURES_LENGTH = 64,
+    /* The most records that are given to the same figures. */
+    SUPERTAB_FIGURES_LIMIT = 1000000
+};
+
+/* The figures of the records given so far, by their index. A count is 0 to 1,000,000. */
+enum {
+    /* How many records have the answer 0; each other answer, to 23, stands at its own number. 6 to 10 are 0. */
+    SUPERTAB_FIGURE_ANSWERS = 0,
+    /* How many are of Monday; the other weekdays follow, to Sunday at 30. 31 is 0 and kept for later. */
+    SUPERTAB_FIGURE_WEEKDAYS = 24,
+    /* How many are of the hour from 0:00 to 0:59; the other hours of the day follow, to 23 at 55. */
+    SUPERTAB_FIGURE_HOURS = 32,
+    /* Of the records with answer 0 or 1: the sum of the ages below zero, from -16,777,215,000,000 to 0; the sum of the
+     * other ages, from 0 to 16,777,215,000,000; and how many these others are. The mean of the others is the second by the
+     * third. "Never" is in none of them. */
+    SUPERTAB_FIGURE_BELOW_ZERO_SUM = 56,
+    SUPERTAB_FIGURE_AGE_SUM = 57,
+    SUPERTAB_FIGURE_AGE_COUNT = 58,
+    /* How many records supertab_record_read refuses; they are counted nowhere above. */
+    SUPERTAB_FIGURE_REFUSED = 59,
+    /* How many records were given. The answers and the refused ones make this number, so do the weekdays and the refused
+     * ones, and the hours and the refused ones. */
+    SUPERTAB_FIGURE_GIVEN = 60
+    /* 61 to 63 are 0 and kept for later. */
+};
+
+/* The figures of no records: 64 zeros.
+ *
+ *   figures        at least 64 numbers; later ones stay
+ *
+ * The result is 0, or 255 for fewer, and then nothing is written.
+ */
+uint8_t supertab_figures_new(int64_t *figures, size_t figures_length);
+
+/* Adds a batch of log records to figures.
+ *
+ *   figures        at least 64 numbers, as supertab_figures_new or this function left them; later ones stay
+ *   batch          records of eight bytes, one behind the other; none is a batch too
+ *   refused        at least 1 number; results 0 and 2 write the first, how many records of the batch lie past the limit;
+ *                  later ones stay
+ *
+ * No two of the three overlap. The result is 0, or the first of 255, 1 and 2 that applies; 255 is given where an array is
+ * too short, a count is outside 0 to 1,000,000, or a sum is outside its bounds above. 255 and 1 write nothing. With 2 the
+ * records before the limit count, and those past it are not among those given.
+ *
+ * How the records are divided into batches changes no figure.
+ */
+uint8_t supertab_figures_feed(int64_t *figures, size_t figures_length,
+                              const uint8_t *batch, size_t batch_length,
+                              int64_t *refused, size_t refused_length);
 
 #ifdef __cplusplus
 }

@@ -1,6 +1,6 @@
 //! The functions of the static library as they stand in `include/supertab.h`, for callers who lend
-//! their own buffers. [`crate::answer`], [`crate::write_record`] and [`crate::read_record`] are the
-//! safe ways to call them.
+//! their own buffers. [`crate::answer`], [`crate::write_record`], [`crate::read_record`] and
+//! [`crate::Figures`] are the safe ways to call them.
 
 /// The fewest bytes of the answer buffer.
 pub const BUFFER_LENGTH: usize = 2_048;
@@ -46,6 +46,27 @@ pub mod field {
     pub const AUTH: usize = 3;
     pub const AUTHENTICATED: usize = 4;
     pub const AGE: usize = 5;
+}
+
+/// The fewest numbers that are lent for figures.
+pub const FIGURES_LENGTH: usize = 64;
+
+/// The most records that are given to the same figures.
+pub const FIGURES_LIMIT: usize = 1_000_000;
+
+/// The result for lent arrays that are too short, and for numbers that are no figures.
+pub const UNUSABLE_FIGURES: u8 = 255;
+
+/// Indices of the figures; `include/supertab.h` says what each number means.
+pub mod figure {
+    pub const ANSWERS: usize = 0;
+    pub const WEEKDAYS: usize = 24;
+    pub const HOURS: usize = 32;
+    pub const BELOW_ZERO_SUM: usize = 56;
+    pub const AGE_SUM: usize = 57;
+    pub const AGE_COUNT: usize = 58;
+    pub const REFUSED: usize = 59;
+    pub const GIVEN: usize = 60;
 }
 
 extern "C" {
@@ -104,5 +125,27 @@ extern "C" {
         record_length: usize,
         fields: *mut i64,
         fields_length: usize,
+    ) -> u8;
+
+    /// Writes the figures of no records, as `include/supertab.h` says.
+    ///
+    /// # Safety
+    ///
+    /// `figures` may be written, is valid for `figures_length` numbers and not null, also for none.
+    pub fn supertab_figures_new(figures: *mut i64, figures_length: usize) -> u8;
+
+    /// Adds a batch of log records to figures, as `include/supertab.h` says.
+    ///
+    /// # Safety
+    ///
+    /// Each pointer is valid for the number of elements behind it and not null, also for none;
+    /// `figures` and `refused` may be written, and no two of the three overlap.
+    pub fn supertab_figures_feed(
+        figures: *mut i64,
+        figures_length: usize,
+        batch: *const u8,
+        batch_length: usize,
+        refused: *mut i64,
+        refused_length: usize,
     ) -> u8;
 }
