@@ -1,0 +1,3 @@
+pub mod Figures
+pub mod Feed
+pub mod Contract
