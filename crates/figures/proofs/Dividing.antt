@@ -57,7 +57,7 @@ first-limit : (rs ss : List (List ℕ)) → firstRecords (firstRecords rs ++ ss)
 unfolding firstRecords
 first-limit rs ss = take-limit recordLimit rs ss
 
-after-most : (rs : List (List ℕ)) (batch : List ℕ) → length rs ≤ recordLimit → length (recordsAfter rs batch) ≤ recordLimit
+pub after-most : (rs : List (List ℕ)) (batch : List ℕ) → length rs ≤ recordLimit → length (recordsAfter rs batch) ≤ recordLimit
 unfolding recordsAfter
 after-most rs batch h = pick-of {X = List (List ℕ)} (λ l. length l ≤ recordLimit) (eqb (length batch % 8) 0) {x = firstRecords (rs ++ recordsOf batch)} {y = rs} (first-most (rs ++ recordsOf batch)) h
 
