@@ -2,9 +2,11 @@
 
 mod bench;
 mod call;
+mod counts;
 mod cuts;
 mod fuzz;
 mod grammar;
+mod guards;
 mod lent;
 mod random;
 mod record_call;
