@@ -2,11 +2,11 @@
 //! at the edges, on a million records divided in several ways, and on random series of batches.
 
 use rule_table::figures::{Figures, LIMIT};
-use supertab::raw::{self, FIGURES_LENGTH, FIGURES_LIMIT, RECORD_LENGTH};
+use supertab::raw::{figure, FIGURES_LENGTH, FIGURES_LIMIT, RECORD_LENGTH};
 
 use crate::counts::{seen, Counts};
 use crate::figures_both::Both;
-use crate::figures_call::{laws, numbers, Feeding};
+use crate::figures_call::{bounds, laws, numbers, Fed, Feeding};
 use crate::figures_edges;
 use crate::figures_random::{any_number, batch, damage, records, start};
 use crate::random::Random;
@@ -16,6 +16,9 @@ const ENOUGH: u64 = 1_000;
 
 /// So many records are given past the limit.
 const MORE: usize = 6;
+
+/// The sizes of batches in which the same records are given.
+const SIZES: [usize; 5] = [1, 7, 4_096, FIGURES_LIMIT, FIGURES_LIMIT + MORE];
 
 /// How many checks passed and failed; failures are printed, and a random one with the seed that
 /// shows it.
@@ -69,38 +72,6 @@ fn series(both: &mut Both, random: &mut Random, mut count: impl FnMut(Result<(),
     }));
 }
 
-/// Figures of the library in memory that stays where it is, for many calls.
-pub struct Fed {
-    pub figures: Vec<i64>,
-    refused: [i64; 1],
-}
-
-impl Fed {
-    pub fn new() -> Fed {
-        let mut figures = vec![-99; FIGURES_LENGTH];
-        // The numbers are our own.
-        let result = unsafe { raw::supertab_figures_new(figures.as_mut_ptr(), figures.len()) };
-        assert_eq!(result, 0, "64 numbers are enough for figures");
-        Fed { figures, refused: [-99] }
-    }
-
-    /// Add a batch: the result, and how many records lie past the limit.
-    pub fn feed(&mut self, batch: &[u8]) -> (u8, i64) {
-        // Every slice's pointer is valid for its length and not null; two of them are our own.
-        let result = unsafe {
-            raw::supertab_figures_feed(
-                self.figures.as_mut_ptr(),
-                self.figures.len(),
-                batch.as_ptr(),
-                batch.len(),
-                self.refused.as_mut_ptr(),
-                self.refused.len(),
-            )
-        };
-        (result, self.refused[0])
-    }
-}
-
 /// As many records as are allowed, and some more, in batches of several sizes: all come to the
 /// figures of the reference.
 fn million(counts: &mut Counts, seed: u64) {
@@ -115,14 +86,20 @@ fn million(counts: &mut Counts, seed: u64) {
         },
     );
     let wanted = numbers(&reference);
-    for size in [1, 7, 4_096, FIGURES_LIMIT, FIGURES_LIMIT + MORE] {
+    let never = (0..FIGURES_LENGTH).find(|index| bounds(*index).is_some() && wanted[*index] == 0);
+    counts.count(
+        || "random records".to_string(),
+        never.map_or(Ok(()), |index| Err(format!("none of them counts at {index}"))),
+    );
+    for size in SIZES {
         for given in [allowed, &records] {
             let result = divided(given, size, &wanted, more);
             let number = given.len() / RECORD_LENGTH;
             counts.count(|| format!("{number} records in batches of {size}"), result);
         }
     }
-    println!("{FIGURES_LIMIT} records: {wanted:?}");
+    let refused = wanted[figure::REFUSED];
+    println!("{FIGURES_LIMIT} records, {refused} of them refused, in batches of {SIZES:?}");
 }
 
 /// Give records in batches of a size and then some more; what each batch gives is known.

@@ -255,6 +255,38 @@ fn joined(numbers: impl Iterator<Item = i64>, between: &str) -> String {
     words.join(between)
 }
 
+/// Figures of the library in memory that stays where it is, for many calls.
+pub struct Fed {
+    pub figures: Vec<i64>,
+    refused: [i64; 1],
+}
+
+impl Fed {
+    pub fn new() -> Fed {
+        let mut figures = vec![-99; FIGURES_LENGTH];
+        // The numbers are our own.
+        let result = unsafe { raw::supertab_figures_new(figures.as_mut_ptr(), figures.len()) };
+        assert_eq!(result, 0, "64 numbers are enough for figures");
+        Fed { figures, refused: [-99] }
+    }
+
+    /// Add a batch: the result, and how many records lie past the limit.
+    pub fn feed(&mut self, batch: &[u8]) -> (u8, i64) {
+        // Every slice's pointer is valid for its length and not null; two of them are our own.
+        let result = unsafe {
+            raw::supertab_figures_feed(
+                self.figures.as_mut_ptr(),
+                self.figures.len(),
+                batch.as_ptr(),
+                batch.len(),
+                self.refused.as_mut_ptr(),
+                self.refused.len(),
+            )
+        };
+        (result, self.refused[0])
+    }
+}
+
 #[cfg(test)]
 mod tests {
     use super::*;

@@ -6,9 +6,8 @@ use std::time::Instant;
 use rule_table::figures::Figures;
 use supertab::raw::{FIGURES_LIMIT, RECORD_LENGTH};
 
-use crate::batches::Fed;
 use crate::bench::TRIES;
-use crate::figures_call::numbers;
+use crate::figures_call::{numbers, Fed};
 use crate::figures_random::records;
 use crate::random::Random;
 

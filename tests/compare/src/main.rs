@@ -70,6 +70,7 @@ fn main() -> ExitCode {
         ["--cases"] => answer_cases().map(|()| true),
         ["--record-write"] => write_records().map(|()| true),
         ["--record-read"] => read_records().map(|()| true),
+        ["--figures"] => figures().map(|()| true),
         ["--check"] => check_cases(u64::MAX),
         ["--check", tables] => match tables.parse() {
             Ok(tables) => check_cases(tables),
@@ -87,7 +88,6 @@ fn main() -> ExitCode {
             (Ok(rounds), Ok(seed)) => Ok(counted(records::run(rounds, seed))),
             _ => return wrong_use(),
         },
-        ["--figures"] => figures().map(|()| true),
         ["--batches", rounds, seed] => match (rounds.parse(), seed.parse()) {
             (Ok(rounds), Ok(seed)) => Ok(counted(batches::run(rounds, seed))),
             _ => return wrong_use(),
