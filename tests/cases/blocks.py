@@ -1,7 +1,7 @@
-"""What expanders of readable case files share: reading blocks of cases, and printing a part of each case.
+"""What expanders of readable case files share: reading blocks, and printing a part of each case.
 
-A block ends at a blank line; its lines are comments, which begin with #, and then one case a line. Lines that begin with ##
-are for the reader of the file only.
+A block ends at a blank line; its lines are comments, which begin with #, and then one case a line.
+Lines that begin with ## are for the reader of the file only.
 """
 import os
 import sys

@@ -9,8 +9,8 @@ use crate::figures_both::Both;
 use crate::figures_call::{bounds, Feeding, Outcome, RESERVED};
 use crate::figures_random::figures_of;
 
-/// A permit on Monday at 0:00 at age 7, the same 7 minutes before the clock was put back, "no entry"
-/// on Sunday at 23:59, and what is no record.
+/// A permit at age 7 and one with password at age -7, both on Monday at 0:00, "no entry" on Sunday
+/// at 23:59, and one of another version.
 const RECORDS: [[u8; RECORD_LENGTH]; 4] = [
     [0x20, 0, 9, 0, 2, 0, 0, 7],
     [0x21, 0, 9, 0, 3, 0, 0, 7],
