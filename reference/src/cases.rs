@@ -34,22 +34,22 @@ pub fn read_case(line: &[u8]) -> Option<Case> {
     let question = Question {
         command: hexadecimal::read(command)?,
         user: hexadecimal::read(user)?,
-        groups: read_list(groups)?,
+        groups: read_list(groups, hexadecimal::read)?,
         host: hexadecimal::read(host)?,
         minute: read_unsigned(minute)?,
         age: read_age(age)?,
-        arguments: read_list(arguments)?,
+        arguments: read_list(arguments, hexadecimal::read)?,
     };
     let table = hexadecimal::read(table)?;
     Some(Case { table, question, buffer_length: read_unsigned(buffer_length)? })
 }
 
-/// A list is `-` for none, or hexadecimal strings joined by commas.
-fn read_list(text: &[u8]) -> Option<Vec<Vec<u8>>> {
+/// A list is `-` for none, or pieces joined by commas, so that nothing at all is one empty piece.
+pub fn read_list<T>(text: &[u8], read_piece: impl Fn(&[u8]) -> Option<T>) -> Option<Vec<T>> {
     if text == b"-" {
         return Some(Vec::new());
     }
-    text.split(|byte| *byte == b',').map(hexadecimal::read).collect()
+    text.split(|byte| *byte == b',').map(read_piece).collect()
 }
 
 /// Read an unsigned decimal number of 64 bits.

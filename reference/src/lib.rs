@@ -1,10 +1,13 @@
-//! A reader of rule tables: a table and a question give one answer, and a log record keeps it.
+//! A reader of rule tables: a table and a question give one answer, a log record keeps it, and
+//! figures are made of many records.
 
 pub mod answer;
 pub mod bytes;
 pub mod cases;
 pub mod entry;
 pub mod fault;
+pub mod figures;
+pub mod figures_cases;
 pub mod glob;
 pub mod hexadecimal;
 pub mod lines;

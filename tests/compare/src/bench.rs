@@ -11,7 +11,7 @@ use crate::call::{before, difference, Asked, Caller};
 use crate::tables::{self, Table};
 
 /// How often both are timed; the best time of each counts.
-const TRIES: usize = 7;
+pub const TRIES: usize = 7;
 
 /// About how many bytes are read in one timing.
 const BYTES: usize = 1 << 20;

@@ -1,10 +1,18 @@
 //! The call of the static library and the reference in one process.
 
+mod batches;
 mod bench;
 mod call;
+mod counts;
 mod cuts;
+mod figures_both;
+mod figures_call;
+mod figures_edges;
+mod figures_random;
+mod figures_times;
 mod fuzz;
 mod grammar;
+mod guards;
 mod lent;
 mod random;
 mod record_call;
@@ -18,7 +26,7 @@ use std::io::{self, BufRead, BufWriter, Write};
 use std::path::Path;
 use std::process::ExitCode;
 
-use rule_table::{cases, record_cases};
+use rule_table::{cases, figures_cases, record_cases};
 
 use call::{difference, Asked, Caller};
 use record_call::{Reading, Writing};
@@ -38,8 +46,15 @@ const USAGE: &str = "usage: compare --cases < cases
        compare --records ROUNDS SEED
            compare them on log records: every number with the other fields at their ends, every
            length, then random fields and bytes
+       compare --figures < cases
+           print what the call gives for the batches of each case line, and the figures of them
+       compare --batches ROUNDS SEED
+           compare them on batches of log records: every length, every number at its bounds, the
+           limit, a million records divided in several ways, then random series of batches
        compare --bench [TABLE]
-           time them on the tables, or on those of one name; on all, also as the next
+           time them on the tables, or on those of one name; on all, also as the next two
+       compare --bench figures
+           time them on a million log records, in batches of several sizes
        compare --bench stars
            time the call on patterns with many stars, and hold it to the limits of request (iii)
        compare --call TABLE ROUNDS
@@ -55,6 +70,7 @@ fn main() -> ExitCode {
         ["--cases"] => answer_cases().map(|()| true),
         ["--record-write"] => write_records().map(|()| true),
         ["--record-read"] => read_records().map(|()| true),
+        ["--figures"] => figures().map(|()| true),
         ["--check"] => check_cases(u64::MAX),
         ["--check", tables] => match tables.parse() {
             Ok(tables) => check_cases(tables),
@@ -72,9 +88,14 @@ fn main() -> ExitCode {
             (Ok(rounds), Ok(seed)) => Ok(counted(records::run(rounds, seed))),
             _ => return wrong_use(),
         },
+        ["--batches", rounds, seed] => match (rounds.parse(), seed.parse()) {
+            (Ok(rounds), Ok(seed)) => Ok(counted(batches::run(rounds, seed))),
+            _ => return wrong_use(),
+        },
+        ["--bench", "figures"] => Ok(figures_times::run() == 0),
         ["--bench", "stars"] => Ok(counted(stars::times())),
         ["--bench"] => {
-            let wrong = bench::run(None);
+            let wrong = bench::run(None) + figures_times::run();
             Ok(counted(stars::times()) && wrong == 0)
         }
         ["--bench", name] => Ok(bench::run(Some(name)) == 0),
@@ -156,6 +177,14 @@ fn read_records() -> io::Result<()> {
         let bytes = record_cases::read_reading(line)?;
         let got = caller.read(&Reading::of_bytes(&bytes));
         Some(got.map_or_else(|wrong| wrong, |got| got.printed_fields()))
+    })
+}
+
+fn figures() -> io::Result<()> {
+    let mut caller = figures_call::Caller::new();
+    reply_to_cases(|line| {
+        let batches = figures_cases::read_batches(line)?;
+        Some(caller.answered(&batches).unwrap_or_else(|wrong| wrong))
     })
 }
 

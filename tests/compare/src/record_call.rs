@@ -5,13 +5,8 @@ use rule_table::record::{self, Fields};
 use supertab::raw::{self, field, FIELDS_LENGTH, RECORD_LENGTH, SMALL_FIELDS};
 
 use crate::call::before;
+use crate::guards::{guarded, twice, unguarded, GUARDS, GUARD_BYTE, GUARD_NUMBER};
 use crate::lent::Lent;
-
-/// How many bytes or numbers stand on a side of lent ones, to be left alone.
-const GUARDS: usize = 8;
-
-const GUARD_BYTE: u8 = 0x5A;
-const GUARD_NUMBER: i64 = -0x5A5A_5A5A_5A5A;
 
 /// What a call that writes a record is given.
 #[derive(Clone, Debug, PartialEq, Eq)]
@@ -153,12 +148,12 @@ impl Caller {
 
     /// Write a record; what a call does beside the memory that it was lent is an error.
     pub fn write(&mut self, writing: &Writing) -> Result<Outcome, String> {
-        twice(|behind| self.write_between(writing, behind))
+        twice(|behind| self.write_between(writing, behind), difference)
     }
 
     /// Read a record; what a call does beside the memory that it was lent is an error.
     pub fn read(&mut self, reading: &Reading) -> Result<Outcome, String> {
-        twice(|behind| self.read_between(reading, behind))
+        twice(|behind| self.read_between(reading, behind), difference)
     }
 
     fn write_between(&mut self, writing: &Writing, behind: usize) -> Result<Outcome, String> {
@@ -198,33 +193,6 @@ impl Caller {
     }
 }
 
-/// Make a call with nothing that may be touched behind what it is lent, and once more with guards
-/// there; both must give the same.
-fn twice(mut call: impl FnMut(usize) -> Result<Outcome, String>) -> Result<Outcome, String> {
-    let first = call(0)?;
-    let second = call(GUARDS)?;
-    match difference(&second, &first) {
-        None => Ok(first),
-        Some(wrong) => Err(format!("the same call again: {wrong}")),
-    }
-}
-
-/// What is lent, between guards on its two sides.
-fn guarded<T: Copy>(lent: &[T], guard: T, behind: usize) -> Vec<T> {
-    [&[guard; GUARDS], lent, &vec![guard; behind]].concat()
-}
-
-/// What was lent, if the guards are as they were.
-fn unguarded<T: Copy + PartialEq>(memory: &[T], guard: T, behind: usize) -> Result<Vec<T>, String> {
-    let (front, rest) = memory.split_at(GUARDS);
-    let (lent, back) = rest.split_at(rest.len() - behind);
-    if front.iter().chain(back).all(|value| *value == guard) {
-        Ok(lent.to_vec())
-    } else {
-        Err("what stands beside the lent memory was changed".to_string())
-    }
-}
-
 /// How an outcome differs from what it must be, if it does.
 pub fn difference(got: &Outcome, wanted: &Outcome) -> Option<String> {
     if got.result != wanted.result {
@@ -242,20 +210,6 @@ pub fn difference(got: &Outcome, wanted: &Outcome) -> Option<String> {
 #[cfg(test)]
 mod tests {
     use super::*;
-
-    #[test]
-    fn guards() {
-        let memory = guarded(&[1, 2, 3], 7, 2);
-        assert_eq!(memory, [7, 7, 7, 7, 7, 7, 7, 7, 1, 2, 3, 7, 7]);
-        assert_eq!(unguarded(&memory, 7, 2), Ok(vec![1, 2, 3]));
-        for place in 0..memory.len() {
-            let mut changed = memory.clone();
-            changed[place] = 9;
-            let inside = (GUARDS..GUARDS + 3).contains(&place);
-            assert_eq!(unguarded(&changed, 7, 2).is_ok(), inside, "at {place}");
-        }
-        assert_eq!(unguarded(&guarded(&[], 7, 0), 7, 0), Ok(Vec::new()));
-    }
 
     #[test]
     fn fields_that_the_header_does_not_know() {

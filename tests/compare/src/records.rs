@@ -4,6 +4,7 @@
 use supertab::raw::{field, FIELDS_LENGTH, RECORD_LENGTH, SMALL_FIELDS};
 
 use crate::call::before;
+use crate::counts::{result_is, seen, Counts};
 use crate::random::Random;
 use crate::record_call::{difference, Caller, Outcome, Reading, Writing};
 use crate::record_random::{bytes, good_record, numbers_before, writing};
@@ -12,16 +13,13 @@ use crate::record_random::{AGES, CAP, KNOWN, LAST_MINUTE, LINES, MINUTES};
 /// From so many rounds on every result and every known number must have been seen.
 const ENOUGH: u64 = 10_000;
 
-/// So many failures are printed at most.
-const PRINTED: u64 = 20;
-
 /// The bits of one in so many random records are flipped.
 const FLIPPED: usize = 16;
 
 /// How many checks passed and failed; failures are printed, and a random one with the seed that
 /// shows it alone.
 pub fn run(rounds: u64, seed: u64) -> (u64, u64) {
-    let mut counts = Counts { passed: 0, failed: 0 };
+    let mut counts = Counts::default();
     ends(&mut counts);
     lengths(&mut counts);
     let mut both = Both::new();
@@ -41,31 +39,11 @@ pub fn run(rounds: u64, seed: u64) -> (u64, u64) {
         }
     }
     println!("{rounds} rounds: {}", both.printed());
-    println!("{flipped} records with each bit flipped; numbers read {}", counted(&both.numbers));
+    println!("{flipped} records with each bit flipped; numbers read {}", seen(&both.numbers));
     if rounds >= ENOUGH {
         counts.count(|| "results".to_string(), both.all_seen());
     }
     (counts.passed, counts.failed)
-}
-
-/// How many checks passed and failed.
-struct Counts {
-    passed: u64,
-    failed: u64,
-}
-
-impl Counts {
-    fn count(&mut self, from: impl Fn() -> String, result: Result<(), String>) {
-        match result {
-            Ok(()) => self.passed += 1,
-            Err(wrong) => {
-                self.failed += 1;
-                if self.failed <= PRINTED {
-                    println!("{}: {wrong}", from());
-                }
-            }
-        }
-    }
 }
 
 /// The call and the reference beside each other, and how often the call gave each result.
@@ -129,15 +107,8 @@ impl Both {
     }
 
     fn printed(&self) -> String {
-        format!("writing {}; reading {}", counted(&self.written), counted(&self.read))
+        format!("writing {}; reading {}", seen(&self.written), seen(&self.read))
     }
-}
-
-/// Each number that was seen, and how often.
-fn counted(counts: &[u64]) -> String {
-    let seen = (0..counts.len()).filter(|number| counts[*number] > 0);
-    let words: Vec<String> = seen.map(|number| format!("{number}: {}", counts[number])).collect();
-    words.join(", ")
 }
 
 /// Every number, good or not, with every other field at its ends.
@@ -191,7 +162,7 @@ fn lengths(counts: &mut Counts) {
                 record: before(length),
             };
             let wanted = if length == RECORD_LENGTH { result } else { 4 };
-            let checked = both.write(&writing).and_then(|got| result_is(&got, wanted));
+            let checked = both.write(&writing).and_then(|got| result_is(got.result, wanted));
             counts.count(|| format!("writing {length} bytes"), checked);
         }
         for (pattern, result) in READ {
@@ -204,21 +175,12 @@ fn lengths(counts: &mut Counts) {
                     (false, false) => 4,
                     (false, true) => result,
                 };
-                let checked = both.read(&reading).and_then(|got| result_is(&got, wanted));
+                let checked = both.read(&reading).and_then(|got| result_is(got.result, wanted));
                 counts.count(|| format!("reading {length} bytes for {room} numbers"), checked);
             }
         }
     }
     println!("lengths: {}", both.printed());
-}
-
-/// Check a result that is known without the reference.
-fn result_is(got: &Outcome, wanted: u8) -> Result<(), String> {
-    if got.result == wanted {
-        Ok(())
-    } else {
-        Err(format!("the result {} instead of {wanted}", got.result))
-    }
 }
 
 /// Write a record and, where none refuses it, read it back: the fields are those that are stored.
