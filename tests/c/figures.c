@@ -218,7 +218,8 @@ static void the_limit(void) {
         expect("past the limit all figures stay", figures_are(full));
     }
     expect("no record at the limit", feed(permit, 0) == SUPERTAB_FIGURES_DONE && refused_are(0) && figures_are(full));
-    expect("1 ahead of 2", feed(worked, 17) == SUPERTAB_FIGURES_NOT_WHOLE && refused_are(REFUSED_BEFORE) && figures_are(full));
+    expect("1 ahead of 2",
+           feed(worked, 17) == SUPERTAB_FIGURES_NOT_WHOLE && refused_are(REFUSED_BEFORE) && figures_are(full));
     begin();
     expect("three past it at once",
            feed_times(oldest, LIMIT + 3) == SUPERTAB_FIGURES_PAST_LIMIT && refused_are(3) && figures_are(full));
@@ -256,7 +257,8 @@ static void unusable(void) {
     begin();
     const int64_t before[LENGTH] = {[0] = -1, [SUPERTAB_FIGURE_GIVEN] = LIMIT};
     memcpy(figures, before, sizeof before);
-    expect("255 ahead of 2", feed(permit, BYTES) == SUPERTAB_FIGURES_UNUSABLE && refused_are(REFUSED_BEFORE) && figures_are(before));
+    expect("255 ahead of 2", feed(permit, BYTES) == SUPERTAB_FIGURES_UNUSABLE && refused_are(REFUSED_BEFORE) &&
+                                 figures_are(before));
 }
 
 /* A number outside its bounds, with batches of every kind; the bounds themselves are taken. */
@@ -283,7 +285,8 @@ static void no_figures(void) {
             int64_t before[LENGTH] = {0};
             begin();
             before[index] = figures[index] = good[i];
-            expect("the bounds of figures", feed(worked, 0) == SUPERTAB_FIGURES_DONE && refused_are(0) && figures_are(before));
+            expect("the bounds of figures",
+                   feed(worked, 0) == SUPERTAB_FIGURES_DONE && refused_are(0) && figures_are(before));
             expect("1 at the bounds", feed(worked, 9) == SUPERTAB_FIGURES_NOT_WHOLE && figures_are(before));
         }
     }

@@ -16,6 +16,6 @@ int main() {
     uint8_t fed = supertab_figures_feed(figures, SUPERTAB_FIGURES_LENGTH, record, sizeof record, &refused, 1);
     bool good = answer == SUPERTAB_NO_ENTRY && written == SUPERTAB_RECORD_DONE && read == SUPERTAB_RECORD_DONE &&
                 fields[SUPERTAB_FIELD_NUMBER] == SUPERTAB_NO_ENTRY && made == SUPERTAB_FIGURES_DONE &&
-                fed == SUPERTAB_FIGURES_DONE && figures[SUPERTAB_FIGURE_ANSWERS + SUPERTAB_NO_ENTRY] == 1;
+                fed == SUPERTAB_FIGURES_DONE && figures[SUPERTAB_FIGURE_ANSWERS + answer] == 1;
     return good ? 0 : 1;
 }
