@@ -11,7 +11,11 @@ int main() {
     int64_t fields[SUPERTAB_FIELDS_LENGTH];
     uint8_t written = supertab_record_write(answer, 0, 0, false, false, 0, record, sizeof record);
     uint8_t read = supertab_record_read(record, sizeof record, fields, SUPERTAB_FIELDS_LENGTH);
+    int64_t figures[SUPERTAB_FIGURES_LENGTH], refused;
+    uint8_t made = supertab_figures_new(figures, SUPERTAB_FIGURES_LENGTH);
+    uint8_t fed = supertab_figures_feed(figures, SUPERTAB_FIGURES_LENGTH, record, sizeof record, &refused, 1);
     bool good = answer == SUPERTAB_NO_ENTRY && written == SUPERTAB_RECORD_DONE && read == SUPERTAB_RECORD_DONE &&
-                fields[SUPERTAB_FIELD_NUMBER] == SUPERTAB_NO_ENTRY;
+                fields[SUPERTAB_FIELD_NUMBER] == SUPERTAB_NO_ENTRY && made == SUPERTAB_FIGURES_DONE &&
+                fed == SUPERTAB_FIGURES_DONE && figures[SUPERTAB_FIGURE_ANSWERS + answer] == 1;
     return good ? 0 : 1;
 }

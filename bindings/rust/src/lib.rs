@@ -1,8 +1,8 @@
 //! Who may run which command, from a rule table in the style of super.tab.
 //!
-//! A safe way to call the static library `libsupertab_c.a`, whose answers and log records are
-//! proved to be those of the definitions. Nothing is kept between calls. A table that was cut in the
-//! middle of a line decides nothing: it is refused.
+//! A safe way to call the static library `libsupertab_c.a`, whose answers, log records and figures
+//! are proved to be those of the definitions. Nothing is kept between calls. A table that was cut in
+//! the middle of a line decides nothing: it is refused.
 //!
 //! ```
 //! use supertab::{answer, Answer, Question};
@@ -35,19 +35,36 @@
 //! # Ok::<(), supertab::RecordRefusal>(())
 //! ```
 //!
+//! Records of a log are counted in batches:
+//!
+//! ```
+//! use supertab::Figures;
+//!
+//! let mut figures = Figures::new();
+//! // A permit on Monday at 17:29, the password given 15 minutes before; and a record of no version.
+//! figures.feed(&[0x20, 0x00, 0x03, 0x10, 0x66, 0x00, 0x00, 0x0f])?;
+//! figures.feed(&[0; 8])?;
+//! assert_eq!((figures.answered(0), figures.on_weekday(0), figures.in_hour(17)), (1, 1, 1));
+//! assert_eq!((figures.age_sum(), figures.age_count()), (15, 1));
+//! assert_eq!((figures.refused(), figures.given()), (1, 2));
+//! # Ok::<(), supertab::FiguresRefusal>(())
+//! ```
+//!
 //! The archive is looked for in the folder that `SUPERTAB_LIB_DIR` names when the crate is built,
 //! or else in `target/staticlib` of the repository, where `rt staticlib supertab_c` leaves it.
 
 mod answer;
 mod cause;
+mod figures;
 mod question;
 pub mod raw;
 mod record;
 
 pub use answer::{Answer, Permission, Refusal};
 pub use cause::Cause;
+pub use figures::{Figures, FiguresRefusal};
 pub use question::{zero_ended, Question};
-pub use raw::RECORD_LENGTH;
+pub use raw::{FIGURES_LIMIT, RECORD_LENGTH};
 pub use record::{read_record, write_record, Fields, RecordRefusal};
 
 use raw::{report, BUFFER_LENGTH, REPORT_LENGTH};
