@@ -2,3 +2,4 @@ pub mod ReportLaws
 pub mod CallLaws
 pub mod SmallLaws
 pub mod RecordLaws
+pub mod FigureLaws

@@ -1,3 +1,4 @@
 pub mod Report
 pub mod Call
 pub mod Record
+pub mod Figures

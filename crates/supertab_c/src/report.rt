@@ -50,7 +50,7 @@ impl Report {
 }
 
 // A count as a number of the report. None that the call tells is above the most that an i64 takes.
-fn counted_as(n: usize) -> i64
+pub fn counted_as(n: usize) -> i64
     ensures { λ r. ⌜ r ≡ counted n ⌝ }
 {
     if n > 9223372036854775807 {
