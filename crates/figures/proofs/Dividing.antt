@@ -42,18 +42,18 @@ take-limit zero xs ys = refl
 take-limit (suc n) [] ys = refl
 take-limit (suc n) (x ∷ xs) ys = ap (λ r. x ∷ r) (take-limit n xs ys)
 
-first-most : (rs : List (List ℕ)) → length (firstRecords rs) ≤ recordLimit
+pub first-most : (rs : List (List ℕ)) → length (firstRecords rs) ≤ recordLimit
 unfolding firstRecords
 first-most rs = go recordLimit rs
   where
     go : (n : ℕ) (xs : List (List ℕ)) → length (take n xs) ≤ n
     go n xs = rw (length-take n xs) (omega arith)
 
-first-all : (rs : List (List ℕ)) → length rs ≤ recordLimit → firstRecords rs ≡ rs
+pub first-all : (rs : List (List ℕ)) → length rs ≤ recordLimit → firstRecords rs ≡ rs
 unfolding firstRecords
 first-all rs h = take-all recordLimit rs h
 
-first-limit : (rs ss : List (List ℕ)) → firstRecords (firstRecords rs ++ ss) ≡ firstRecords (rs ++ ss)
+pub first-limit : (rs ss : List (List ℕ)) → firstRecords (firstRecords rs ++ ss) ≡ firstRecords (rs ++ ss)
 unfolding firstRecords
 first-limit rs ss = take-limit recordLimit rs ss
 
@@ -66,7 +66,7 @@ unfoldable pub recordsAfterAll : List (List ℕ) → List (List ℕ) → List (L
 recordsAfterAll rs [] = rs
 recordsAfterAll rs (b ∷ bs) = recordsAfterAll (recordsAfter rs b) bs
 
-no-records : recordsOf [] ≡ []
+pub no-records : recordsOf [] ≡ []
 unfolding recordsOf recordsIn
 no-records = refl
 

@@ -1,0 +1,70 @@
+use native.Mathlib.Omega.{arith}
+use Rattle.io.proofs.Counting.{front}
+use Rattle.text.proofs.Buffers.{wrote-length, wrote-done}
+use borrow.Author.Needs.{needs}
+use Rattle.summary.proofs.gather.print_summary.Statement.{statement}
+use Rattle.summary.proofs.gather.print_summary.Tie as tie
+use Rattle.summary.proofs.gather.print_summary.Reads as reads
+use Rattle.summary.proofs.gather.print_summary.Lts as lts
+use Rattle.libc.proofs.isatty.Reads as isatty-reads
+use Rattle.streams.proofs.message.tell.Reads as tell-reads
+use Rattle.streams.proofs.standard_output.print.Reads as print-reads
+use Rattle.summary.proofs.gather.lines_buffer.Reads as lines-buffer-reads
+use Rattle.summary.proofs.lines.put_summary.Reads as put-summary-reads
+
+lines-buffer-requires : tie.Need-lines-buffer-requires
+lines-buffer-requires c κs = search needs
+
+isatty-requires : tie.Need-isatty-requires
+isatty-requires c κs = search needs
+
+slice-aggregate-put-summary : tie.Need-slice-aggregate-put-summary
+slice-aggregate-put-summary c = search needs
+
+put-summary-requires : tie.Need-put-summary-requires
+put-summary-requires c κs = search needs
+
+enum-known-n : tie.Need-enum-known-n
+enum-known-n c = search needs
+
+array-share-prefix-out : tie.Need-array-share-prefix-out
+array-share-prefix-out c = let w = c .before .before .before .before .put-summary .ensures in omega (arith, wrote-length w, wrote-done w (c .before .n .given .1) .0)
+
+slice-aggregate-print : tie.Need-slice-aggregate-print
+slice-aggregate-print c = let w = c .before .before .before .before .before .put-summary .ensures in front _ _ (omega (arith, wrote-length w, wrote-done w (c .before .before .n .given .1) .0))
+
+print-requires : tie.Need-print-requires
+print-requires c κs = search needs
+
+enum-told : tie.Need-enum-told
+enum-told c = search needs
+
+slice-aggregate-tell : tie.Need-slice-aggregate-tell
+slice-aggregate-tell c = search needs
+
+tell-requires : tie.Need-tell-requires
+tell-requires c κs = search needs
+
+returns : tie.Need-returns
+returns c = search needs
+
+returns-2 : tie.Need-returns-2
+returns-2 c = search needs
+
+pub print-summary-spec : {M : Type 1} → statement M
+print-summary-spec =
+    tie.close
+    (tie.spec
+    lines-buffer-requires
+    isatty-requires
+    slice-aggregate-put-summary
+    put-summary-requires
+    enum-known-n
+    array-share-prefix-out
+    slice-aggregate-print
+    print-requires
+    enum-told
+    slice-aggregate-tell
+    tell-requires
+    returns
+    returns-2)

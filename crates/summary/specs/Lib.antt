@@ -1,0 +1,3 @@
+pub mod Bar
+pub mod Summary
+pub mod Contract
