@@ -6,8 +6,8 @@ pub enum Request {
     Answer(usize),
     // The same, with a log of the answers; the argument that names the log, and the one that names the table.
     AnswerWithLog(usize, usize),
-    // To print the log that this argument names.
-    ReadLog(usize),
+    // To print what is asked of the log that this argument names.
+    ReadLog(LogView, usize),
     // To check the table that this argument names.
     Check(usize),
     // The same, with the question in the argument behind it.
@@ -23,11 +23,18 @@ pub enum Request {
     Surplus(usize),
 }
 
+// What is printed of a log.
+pub enum LogView {
+    Records,
+    Figures,
+}
+
 // What an argument is where an option may stand.
 enum Word {
     Check,
     Log,
     ReadLog,
+    Figures,
     Help,
     Version,
     // `--`
@@ -61,6 +68,9 @@ fn word_of(text: &[u8]) -> Word {
     }
     if equal(text, b"--read-log") {
         return Word::ReadLog;
+    }
+    if equal(text, b"--figures") {
+        return Word::Figures;
     }
     if equal(text, b"--help") {
         return Word::Help;
@@ -146,20 +156,20 @@ fn with_log() -> Request {
     }
 }
 
-// A log to print, where an argument is there and none behind it.
-fn read_log_at(i: usize) -> Request {
+// A log that is read, where an argument is there and none behind it.
+fn read_log_at(view: LogView, i: usize) -> Request {
     if os::arg_count() > i {
-        return last(i, Request::ReadLog(i));
+        return last(i, Request::ReadLog(view, i));
     }
     Request::NoLog
 }
 
-// What stands behind --read-log.
-fn read_log_request() -> Request {
+// What stands behind --read-log or --figures.
+fn read_log_request(view: LogView) -> Request {
     match word_at(2) {
-        Word::EndOfOptions => read_log_at(3),
-        Word::Dash => read_log_at(2),
-        Word::Operand => read_log_at(2),
+        Word::EndOfOptions => read_log_at(view, 3),
+        Word::Dash => read_log_at(view, 2),
+        Word::Operand => read_log_at(view, 2),
         Word::Missing => Request::NoLog,
         _ => Request::UnknownOption(2),
     }
@@ -169,7 +179,8 @@ pub fn requested() -> Request {
     match word_at(1) {
         Word::Check => check_request(),
         Word::Log => with_log(),
-        Word::ReadLog => read_log_request(),
+        Word::ReadLog => read_log_request(LogView::Records),
+        Word::Figures => read_log_request(LogView::Figures),
         Word::Help => last(1, Request::Help),
         Word::Version => last(1, Request::Version),
         Word::EndOfOptions => last(2, Request::Answer(2)),

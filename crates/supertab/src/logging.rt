@@ -1,4 +1,5 @@
-// Answers with a log, and the log that is printed.
+// Answers with a log, and what is printed of one.
+use super::arguments::LogView;
 use super::table;
 use libc::STDIN_FILENO;
 use log::file::Log;
@@ -8,6 +9,7 @@ use responder::lines::answer_lines;
 use streams::input::Loaded;
 use streams::input::load_name;
 use streams::message;
+use summary::gather::print_figures;
 use text::slice::equal;
 
 // Answers the questions of standard input from a table, with the log that an argument names, if it can be had.
@@ -32,10 +34,18 @@ pub fn answer(i: usize, j: usize) {
     answer_logged(&bytes[..n], i);
 }
 
-// Prints the log of this name, `-` for standard input; one that cannot be opened is told.
-fn read_named(name: &[u8]) {
+// Prints what is asked of an open log.
+fn print_view(view: LogView, fd: i32, name: &[u8]) {
+    match view {
+        LogView::Records => show(fd, name),
+        LogView::Figures => print_figures(fd, name),
+    }
+}
+
+// Prints what is asked of the log of this name, `-` for standard input; one that cannot be opened is told.
+fn read_named(view: LogView, name: &[u8]) {
     if equal(name, b"-") {
-        show(STDIN_FILENO, b"standard input");
+        print_view(view, STDIN_FILENO, b"standard input");
         return;
     }
     let fd = os::open_read(name);
@@ -43,15 +53,15 @@ fn read_named(name: &[u8]) {
         message::failed(name);
         return;
     }
-    show(fd, name);
+    print_view(view, fd, name);
     libc::close(fd);
 }
 
-// Prints the log that an argument names.
-pub fn read(i: usize) {
+// Prints what is asked of the log that an argument names.
+pub fn read(view: LogView, i: usize) {
     let mut name = io::buffer();
     let Loaded::Bytes(n) = load_name(i, b"the name of the log", &mut name) else {
         return;
     };
-    read_named(&name[..n]);
+    read_named(view, &name[..n]);
 }

@@ -1,7 +1,7 @@
-// The program: answers question lines from a table, checks a table, keeps a log and prints one.
+// The program: answers question lines from a table, checks a table, keeps a log, prints one and its figures.
 mod arguments; // what the arguments ask for
 mod check; // what --check prints
-mod logging; // answers with a log, and the log that is printed
+mod logging; // answers with a log, and what is printed of one
 mod table; // the table, from the file that an argument names
 
 use arguments::Request;
@@ -26,10 +26,11 @@ fn help() {
         b"supertab TABLE < QUESTIONS             print an answer for each question line\n\
         supertab --log FILE TABLE < QUESTIONS  the same, and append a record of each answer to the file\n\
         supertab --read-log FILE               print the records of a log, NUMBER LINE MINUTE AUTH AGE\n\
+        supertab --figures FILE                print how many of its records there are of each answer, weekday and hour\n\
         supertab --check TABLE [QUESTION]      tell whether the table is good, or where it is not and why\n\
         supertab --help                        print this\n\
         supertab --version                     print the version\n\
-        A question line is COMMAND USER GROUPS HOST MINUTE AGE ARGS. --check - reads the table, and --read-log - the log,\n\
+        A question line is COMMAND USER GROUPS HOST MINUTE AGE ARGS. --check - reads the table, and --read-log - and --figures - the log,\n\
         from standard input. Behind -- the name of a table or of a log that is read may begin with -.\n",
     );
 }
@@ -38,7 +39,7 @@ fn main() {
     match requested() {
         Request::Answer(i) => answer(i),
         Request::AnswerWithLog(i, j) => logging::answer(i, j),
-        Request::ReadLog(i) => logging::read(i),
+        Request::ReadLog(view, i) => logging::read(view, i),
         Request::Check(i) => check::check(i),
         Request::CheckWith(i) => check::check_with(i),
         Request::Help => help(),
