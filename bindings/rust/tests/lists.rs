@@ -1,11 +1,11 @@
-//! The list of causes, the answer numbers, the report's indices and those of a record's fields stand
-//! in several places, for the reader of each; here they are held to each other.
+//! The list of causes, the answer numbers, the report's indices, those of a record's fields and those
+//! of figures stand in several places, for the reader of each; here they are held to each other.
 
 use std::fs;
 use std::path::Path;
 
-use supertab::raw::{self, field, report};
-use supertab::{Cause, RecordRefusal, Refusal};
+use supertab::raw::{self, field, figure, report};
+use supertab::{Cause, FiguresRefusal, RecordRefusal, Refusal};
 
 /// A file of the repository.
 fn file(name: &str) -> String {
@@ -75,7 +75,7 @@ fn causes_of_the_header() {
 #[test]
 fn answers_of_the_header() {
     // 01's table of answer numbers, with the one for a report that is too short.
-    let others = ["BUFFER_", "REPORT_", "CAUSE_", "RECORD_", "FIELD"];
+    let others = ["BUFFER_", "REPORT_", "CAUSE_", "RECORD_", "FIELD", "FIGURE"];
     let numbers: Vec<usize> = constants("SUPERTAB_")
         .into_iter()
         .filter(|(name, _)| !others.iter().any(|other| name.starts_with(other)))
@@ -134,6 +134,32 @@ fn records_of_the_header() {
     ]
     .map(|(name, number)| (name.to_string(), number));
     assert_eq!(constants("SUPERTAB_FIELD_"), ours);
+}
+
+#[test]
+fn figures_of_the_header() {
+    let ours = [
+        ("DONE", 0),
+        ("NOT_WHOLE", FiguresRefusal::NotWhole.number().into()),
+        ("PAST_LIMIT", FiguresRefusal::PastLimit(1).number().into()),
+        ("UNUSABLE", raw::UNUSABLE_FIGURES.into()),
+        ("LENGTH", raw::FIGURES_LENGTH),
+        ("LIMIT", raw::FIGURES_LIMIT),
+    ]
+    .map(|(name, number)| (name.to_string(), number));
+    assert_eq!(constants("SUPERTAB_FIGURES_"), ours);
+    let ours = [
+        ("ANSWERS", figure::ANSWERS),
+        ("WEEKDAYS", figure::WEEKDAYS),
+        ("HOURS", figure::HOURS),
+        ("BELOW_ZERO_SUM", figure::BELOW_ZERO_SUM),
+        ("AGE_SUM", figure::AGE_SUM),
+        ("AGE_COUNT", figure::AGE_COUNT),
+        ("REFUSED", figure::REFUSED),
+        ("GIVEN", figure::GIVEN),
+    ]
+    .map(|(name, number)| (name.to_string(), number));
+    assert_eq!(constants("SUPERTAB_FIGURE_"), ours);
 }
 
 #[test]
