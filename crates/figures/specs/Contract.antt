@@ -12,11 +12,16 @@ use Rattle.record.specs.Layout.{recordLength}
 use Rattle.record.specs.Stored.{storedAge}
 use Rattle.figures.specs.declared.Figures.{Figures}
 use Rattle.figures.specs.declared.Fed.{Fed}
+use Rattle.figures.specs.declared.feed.Totals.{Totals}
 use Rattle.figures.specs.declared.Feeding.the-variants.{NotWhole}
 use Rattle.figures.specs.Figures.{recordLimit, sumLimit, recordsIn, fieldsIn, weekdayOf, hourOf, belowZero, isFromZero, fromZero, figuresOf}
 use Rattle.figures.specs.Feed.{feedAnswer, recordsAfter}
 
 -- ---- one record more
+-- the figures that the code keeps apart while it counts
+abbrev pub figuresWith : Totals → (answers weekdays hours : List ℕ) → Figures
+figuresWith t a w h = record { answers = a; weekdays = w; hours = h; below = t .below; sum = t .sum; ages = t .ages; refused = t .refused; given = t .given }
+
 -- a count and one more; of 1,000,000 records no count passes the limit
 unfoldable pub more : ℕ → ℕ
 more n = min (suc n) recordLimit

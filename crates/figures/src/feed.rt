@@ -13,59 +13,79 @@ use record::Fields;
 use record::Record;
 use record::read::read_record;
 ghost use mathlib.Core.Path.{_≡_};
-ghost use mathlib.Core.List.{[]};
-ghost use Prim.Native.Nat.{_≤_, _<_};
+ghost use mathlib.Core.List.{List, []};
+ghost use Prim.Native.Nat.{ℕ, _≤_, _<_};
 ghost use Rattle.question.specs.Question.{weekMinutes};
 ghost use Rattle.figures.specs.Figures.{figuresOf};
-ghost use Rattle.figures.specs.Contract.{roomFor, withFields, withRefused, withRecord, Feeds};
+ghost use Rattle.figures.specs.Contract.{figuresWith, roomFor, withFields, withRefused, withRecord, Feeds};
 
-// The figures with the fields of one record more.
-fn with_fields(figures: Figures, fields: Fields) -> Figures
-    requires { ⌜ (fields .number ≤ 23) × (fields .minute .0 < weekMinutes) ⌝ }
-    ensures { λ r. ⌜ r ≡ withFields figures fields ⌝ }
-{
-    let week_minute = fields.minute;
-    let minute = week_minute.0;
-    let number = fields.number;
-    let age = fields.age;
-    let mut answers = figures.answers;
-    let mut weekdays = figures.weekdays;
-    let mut hours = figures.hours;
-    one_more_at(&mut answers, number as usize);
-    one_more_at(&mut weekdays, (minute / 1440) as usize);
-    one_more_at(&mut hours, (minute / 60 % 24) as usize);
-    let below = below_zero(number, age);
-    let from = from_zero(number, age);
-    let counts = is_from_zero(number, age);
-    Figures {
-        answers,
-        weekdays,
-        hours,
-        below: add_to(figures.below, below),
-        sum: add_to(figures.sum, from),
-        ages: one_more_if(counts, figures.ages),
-        refused: figures.refused,
-        given: one_more(figures.given),
+// The figures that are not counted by number, weekday or hour.
+struct Totals {
+    below: u64,
+    sum: u64,
+    ages: u32,
+    refused: u32,
+    given: u32,
+}
+
+impl Totals {
+    // With one refused record more.
+    fn with_refused(self) -> Totals
+        ensures { λ r. ⌜ ((answers weekdays hours : List ℕ) → figuresWith r answers weekdays hours ≡ withRefused (figuresWith self answers weekdays hours)) ⌝ }
+    {
+        Totals {
+            below: self.below,
+            sum: self.sum,
+            ages: self.ages,
+            refused: one_more(self.refused),
+            given: one_more(self.given),
+        }
     }
-}
 
-// The figures with one refused record more.
-fn with_refused(figures: Figures) -> Figures
-    ensures { λ r. ⌜ r ≡ withRefused figures ⌝ }
-{
-    let mut after = figures;
-    after.refused = one_more(figures.refused);
-    after.given = one_more(figures.given);
-    after
-}
+    // With the fields of one record more; the lent counts have one more each.
+    fn with_fields(
+        self,
+        fields: Fields,
+        answers: &mut [u32; Figures::ANSWERS],
+        weekdays: &mut [u32; Figures::WEEKDAYS],
+        hours: &mut [u32; Figures::HOURS],
+    ) -> Totals
+        requires { ⌜ (fields .number ≤ 23) × (fields .minute .0 < weekMinutes) ⌝ }
+        ensures { λ r. ⌜ figuresWith r (now (answers .exit)) (now (weekdays .exit)) (now (hours .exit)) ≡ withFields (figuresWith self (now (answers .entry)) (now (weekdays .entry)) (now (hours .entry))) fields ⌝ }
+    {
+        let week_minute = fields.minute;
+        let minute = week_minute.0;
+        let number = fields.number;
+        let age = fields.age;
+        one_more_at(answers, number as usize);
+        one_more_at(weekdays, (minute / 1440) as usize);
+        one_more_at(hours, (minute / 60 % 24) as usize);
+        let below = below_zero(number, age);
+        let from = from_zero(number, age);
+        let counts = is_from_zero(number, age);
+        Totals {
+            below: add_to(self.below, below),
+            sum: add_to(self.sum, from),
+            ages: one_more_if(counts, self.ages),
+            refused: self.refused,
+            given: one_more(self.given),
+        }
+    }
 
-// The figures with eight bytes more.
-fn with_record(figures: Figures, bytes: &[u8]) -> Figures
-    ensures { λ r. ⌜ r ≡ withRecord figures (now (bytes .entry)) ⌝ }
-{
-    match read_record(bytes) {
-        Record::Stored(fields) => with_fields(figures, fields),
-        _ => with_refused(figures),
+    // With eight bytes more.
+    fn with_record(
+        self,
+        bytes: &[u8],
+        answers: &mut [u32; Figures::ANSWERS],
+        weekdays: &mut [u32; Figures::WEEKDAYS],
+        hours: &mut [u32; Figures::HOURS],
+    ) -> Totals
+        ensures { λ r. ⌜ figuresWith r (now (answers .exit)) (now (weekdays .exit)) (now (hours .exit)) ≡ withRecord (figuresWith self (now (answers .entry)) (now (weekdays .entry)) (now (hours .entry))) (now (bytes .entry)) ⌝ }
+    {
+        match read_record(bytes) {
+            Record::Stored(fields) => self.with_fields(fields, answers, weekdays, hours),
+            _ => self.with_refused(),
+        }
     }
 }
 
@@ -112,22 +132,41 @@ impl Figures {
         }
         let records = batch.len() / Record::BYTES;
         let taken = room_for(self.given, records);
-        let mut after = self;
+        let mut answers = self.answers;
+        let mut weekdays = self.weekdays;
+        let mut hours = self.hours;
+        let mut totals = Totals {
+            below: self.below,
+            sum: self.sum,
+            ages: self.ages,
+            refused: self.refused,
+            given: self.given,
+        };
         let mut k = 0;
         while k < taken {
             let at = k * Record::BYTES;
             let end = at + Record::BYTES;
-            after = with_record(after, &batch[at..end]);
+            totals = totals.with_record(&batch[at..end], &mut answers, &mut weekdays, &mut hours);
             k += 1;
         }
+        let figures = Figures {
+            answers,
+            weekdays,
+            hours,
+            below: totals.below,
+            sum: totals.sum,
+            ages: totals.ages,
+            refused: totals.refused,
+            given: totals.given,
+        };
         if taken < records {
             return Fed {
-                figures: after,
+                figures,
                 answer: Feeding::PastLimit((records - taken) as u64),
             };
         }
         Fed {
-            figures: after,
+            figures,
             answer: Feeding::Taken,
         }
     }

@@ -4,21 +4,18 @@ use native.Mathlib.Omega.{arith}
 use borrow.Author.Needs.{needs}
 use lib.ListN.{length, drop}
 use Rattle.figures.specs.Figures.{recordsIn}
-use Rattle.figures.specs.Contract.{withAll}
+use Rattle.figures.specs.Contract.{figuresWith, withAll}
 use Rattle.figures.proofs.Adding.{room-most}
 use Rattle.figures.proofs.Batches.{all-on, all-start, all-end, feeds-not, feeds-past, feeds-all}
 use Rattle.figures.proofs.Figures.feed.Statement.{statement}
 use Rattle.figures.proofs.Figures.feed.Tie as tie
-use Rattle.figures.proofs.Figures.feed.Reads as reads
-use Rattle.figures.proofs.Figures.feed.Lts as lts
-use Rattle.figures.proofs.feed.room_for.Reads as room-for-reads
-use Rattle.figures.proofs.feed.with_record.Reads as with-record-reads
 
 abbrev Inv-loop : tie.InvT-loop
-Inv-loop batch records taken after₀ k₀ after k = (records ≡ length batch / 8) × (taken ≤ records) × (k ≤ taken) × (withAll after (recordsIn (taken - k) (drop (k * 8) batch)) ≡ withAll after₀ (recordsIn taken batch))
+Inv-loop batch records taken answers₀ weekdays₀ hours₀ totals₀ k₀ answers weekdays hours totals k =
+    (records ≡ length batch / 8) × (taken ≤ records) × (k ≤ taken) × (withAll (figuresWith totals answers weekdays hours) (recordsIn (taken - k) (drop (k * 8) batch)) ≡ withAll (figuresWith totals₀ answers₀ weekdays₀ hours₀) (recordsIn taken batch))
 
 abbrev μ-loop : tie.MeasureT-loop
-μ-loop batch records taken after₀ k₀ after k = taken - k
+μ-loop batch records taken answers₀ weekdays₀ hours₀ totals₀ k₀ answers weekdays hours totals k = taken - k
 
 returns : tie.Need-returns Inv-loop μ-loop
 returns c = feeds-not _ _ (c .if1 .taken)
@@ -27,7 +24,10 @@ room-for-requires : tie.Need-room-for-requires Inv-loop μ-loop
 room-for-requires c κs = search needs
 
 loop-holds : tie.Need-loop-holds Inv-loop μ-loop
-loop-holds c = (refl, room-most _ _ _ (c .room-for .ensures), omega arith, all-start (c .before .before .before .args .self) (c .before .before .before .args .batch .now) (c .room-for .result))
+loop-holds c =
+    let a = c .before .before .before .before .before .before .args in
+    let room = c .before .before .before .room-for in
+    (refl, room-most _ _ _ (room .ensures), omega arith, all-start (a .self) (a .batch .now) (room .result))
 
 mul-at : tie.Need-mul-at Inv-loop μ-loop
 mul-at c = omega arith
@@ -55,20 +55,28 @@ loop-less c = omega arith
 
 loop-again : tie.Need-loop-again Inv-loop μ-loop
 loop-again c =
-    (refl, omega arith, omega arith, rw (c .with-record .ensures) (all-on (c .before .before .before .loop .after) (c .before .before .before .before .before .before .before .args .batch .now) (c .before .before .before .before .room-for .result) (c .before .before .before .loop .k) (c .before .before .loop-test .taken) ∙ c .before .before .before .loop .inv .3))
+    let l = c .before .before .before .before .before .before .loop in
+    let on = all-on (figuresWith (l .totals) (l .answers) (l .weekdays) (l .hours)) (c .before .before .before .before .before .before .before .before .before .before .before .before .before .args .batch .now) (c .before .before .before .before .before .before .before .before .before .before .room-for .result) (l .k) (c .before .before .before .before .before .loop-test .taken) in
+    (refl, omega arith, omega arith, rw (c .with-record .ensures) (on ∙ l .inv .3))
 
-sub-t18 : tie.Need-sub-t18 Inv-loop μ-loop
-sub-t18 c = omega arith
+sub-t28 : tie.Need-sub-t28 Inv-loop μ-loop
+sub-t28 c = omega arith
 
 returns-2 : tie.Need-returns-2 Inv-loop μ-loop
 returns-2 c =
-    feeds-past (c .before .before .before .before .before .before .args .self) (c .before .before .before .before .before .before .args .batch .now) (c .before .before .before .before .if1 .left) (c .before .before .loop .after) (c .before .before .before .room-for .result) (c .before .before .before .room-for .ensures)
-    (all-end (c .before .before .loop .after) (c .before .before .before .before .before .before .args .batch .now) (c .before .before .before .room-for .result) (c .before .before .loop .k) (c .before .loop-test .left) ∙ c .before .before .loop .inv .3) (c .if2 .taken)
+    let a = c .before .before .before .before .before .before .before .before .before .args in
+    let room = c .before .before .before .before .before .before .room-for in
+    let l = c .before .before .loop in
+    let after = figuresWith (l .totals) (l .answers) (l .weekdays) (l .hours) in
+    feeds-past (a .self) (a .batch .now) (c .before .before .before .before .before .before .before .if1 .left) after (room .result) (room .ensures) (all-end after (a .batch .now) (room .result) (l .k) (c .before .loop-test .left) ∙ l .inv .3) (c .if2 .taken)
 
 returns-3 : tie.Need-returns-3 Inv-loop μ-loop
 returns-3 c =
-    feeds-all (c .before .before .before .before .before .before .args .self) (c .before .before .before .before .before .before .args .batch .now) (c .before .before .before .before .if1 .left) (c .before .before .loop .after) (c .before .before .before .room-for .result) (c .before .before .before .room-for .ensures)
-    (all-end (c .before .before .loop .after) (c .before .before .before .before .before .before .args .batch .now) (c .before .before .before .room-for .result) (c .before .before .loop .k) (c .before .loop-test .left) ∙ c .before .before .loop .inv .3) (c .if2 .left)
+    let a = c .before .before .before .before .before .before .before .before .before .args in
+    let room = c .before .before .before .before .before .before .room-for in
+    let l = c .before .before .loop in
+    let after = figuresWith (l .totals) (l .answers) (l .weekdays) (l .hours) in
+    feeds-all (a .self) (a .batch .now) (c .before .before .before .before .before .before .before .if1 .left) after (room .result) (room .ensures) (all-end after (a .batch .now) (room .result) (l .k) (c .before .loop-test .left) ∙ l .inv .3) (c .if2 .left)
 
 pub feed-spec : {M : Type 1} → statement M
 feed-spec =
@@ -88,6 +96,6 @@ feed-spec =
     add-k
     loop-less
     loop-again
-    sub-t18
+    sub-t28
     returns-2
     returns-3)
