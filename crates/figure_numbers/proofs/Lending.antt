@@ -18,7 +18,7 @@ use Rattle.figures.specs.Feed.{recordsAfter, feedTold}
 use Rattle.figures.specs.Contract.{fedWith, Feeds}
 use Rattle.figures.proofs.Dividing.{after-most}
 use Rattle.figure_numbers.specs.declared.lent.FedNumbers.the-variants as lent
-use Rattle.figure_numbers.specs.Contract.{placed, cleared, Clears, canFeed, numbersAnswer, placedWhere, numbersAfter, FeedsNumbers}
+use Rattle.figure_numbers.specs.Contract.{withFigures, cleared, Clears, canFeed, numbersAnswer, figuresWhere, numbersFed, FeedsNumbers}
 use Rattle.figure_numbers.specs.Numbers.{numbersLength, usable, figuresIn, numbersOf}
 use Rattle.figure_numbers.proofs.Places.{figures-back, figures-usable, figures-in-bounds, numbers-length}
 
@@ -28,7 +28,7 @@ unfolding cleared
 clears-short old h = let k = lt-leb numbersLength (length old) h in record { answer = sym k; numbers = rw k }
 
 pub clears-long : (old new : List ℤ) (g : Figures) → numbersLength ≤ length old → g ≡ figuresOf [] → new ≡ numbersOf g ++ drop numbersLength old → Clears old new true
-unfolding cleared placed
+unfolding cleared withFigures
 clears-long old new g h e n = let k = le-leb numbersLength (length old) h in record { answer = sym k; numbers = rw (k, ← e) n }
 
 -- ---- a batch
@@ -56,7 +56,7 @@ unfolding canFeed
 can-by old h = rw (le-leb numbersLength (length old) h)
 
 -- every answer but 1 has looked at the batch
-looked : (a : Feeding) (g : Figures) (l : List ℤ) → (feedTold a .number ≡ 1 → ⊥) → placedWhere (feedTold a .past) g l ≡ placed g l
+looked : (a : Feeding) (g : Figures) (l : List ℤ) → (feedTold a .number ≡ 1 → ⊥) → figuresWhere (feedTold a .past) g l ≡ withFigures g l
 unfolding feedTold
 looked Taken g l h = refl
 looked NotWhole g l h = absurd (h refl)
@@ -70,7 +70,7 @@ not-whole (PastLimit n) e = absurd (omega arith)
 
 module _ (old : List ℤ) (batch : List ℕ) where
   feeds-unusable : canFeed old ≡ false → FeedsNumbers old batch old lent.Unusable
-  unfolding numbersAnswer numbersAfter
+  unfolding numbersAnswer numbersFed
   feeds-unusable c = record {
     answer = rw c;
     numbers = refl;
@@ -97,7 +97,7 @@ module _ (old : List ℤ) (batch : List ℕ) where
 
       -- a batch that was looked at
       pub feeds-placed : {n : ℕ} → n ≡ feedTold (fed .answer) .number → (n ≡ 1 → ⊥) → (new : List ℤ) → new ≡ numbersOf (fed .figures) ++ drop numbersLength old → FeedsNumbers old batch new (lent.Fed (fed .answer))
-      unfolding numbersAfter placed
+      unfolding numbersFed withFigures
       feeds-placed {n} en o new e = record {
         answer = answered;
         numbers = e ∙ rw (x .counted, eg) (sym (looked (fed .answer) (fedWith (figuresIn old) batch) old (λ k. o (en ∙ k))));
@@ -106,7 +106,7 @@ module _ (old : List ℤ) (batch : List ℕ) where
 
       -- and one that was not
       pub feeds-left : {n : ℕ} → n ≡ feedTold (fed .answer) .number → n ≡ 1 → FeedsNumbers old batch old (lent.Fed (fed .answer))
-      unfolding numbersAfter feedTold
+      unfolding numbersFed feedTold
       feeds-left {n} en o =
           let k = not-whole (fed .answer) (sym en ∙ o) in
           record {

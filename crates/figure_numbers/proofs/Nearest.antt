@@ -8,7 +8,7 @@ use lib.Dec.{T, ltb}
 use lib.IntN.{ℤ, pos, negsuc, negℤ, natAbs, _-ℤ_, +ℤ-idl}
 use lib.Signed.{ltZ, nonNeg}
 use Rattle.figures.specs.Figures.{sumLimit}
-use Rattle.figure_numbers.specs.Numbers.{fromZero, nearest, sumNumber}
+use Rattle.figure_numbers.specs.Numbers.{positivePart, nearest, sumNumber}
 use mir.Syntax.{Width, w64}
 use mir.Val.{Fits, SFits, toZ, ofZ}
 use mir.ValLaws.{toZ-ofZ, toZ-pos}

@@ -12,7 +12,7 @@ use lib.Seq.{take-at, drop-at, drop-append-add, getD-append-add}
 use Rattle.text.specs.Lists.{all}
 use Rattle.text.proofs.Laws.{both-true, both-of}
 use Rattle.text.proofs.Lists.{all-append}
-use Rattle.figures.specs.Figures.{recordLimit, sumLimit, howMany, weekdayOf, hourOf, isFromZero, table, figuresOf, belowSum}
+use Rattle.figures.specs.Figures.{recordLimit, sumLimit, howMany, weekdayOf, dayHourOf, isFromZero, table, figuresOf, belowSum}
 use Rattle.figures.specs.declared.Figures.{Figures}
 use Rattle.figures.proofs.Counting.{many-most, refused-most}
 use Rattle.figures.proofs.Reporting.{sums-fit}
@@ -245,7 +245,7 @@ figures-in-bounds rs h =
     record {
       answers = (table-length 24 (λ n. howMany (λ f. eqb (f .number) n) rs), table-in 24 (λ n. howMany (λ f. eqb (f .number) n) rs) (λ n. omega (arith, many-most (λ f. eqb (f .number) n) rs)));
       weekdays = (table-length 7 (λ d. howMany (λ f. eqb (weekdayOf f) d) rs), table-in 7 (λ d. howMany (λ f. eqb (weekdayOf f) d) rs) (λ d. omega (arith, many-most (λ f. eqb (weekdayOf f) d) rs)));
-      hours = (table-length 24 (λ o. howMany (λ f. eqb (hourOf f) o) rs), table-in 24 (λ o. howMany (λ f. eqb (hourOf f) o) rs) (λ o. omega (arith, many-most (λ f. eqb (hourOf f) o) rs)));
+      hours = (table-length 24 (λ o. howMany (λ f. eqb (dayHourOf f) o) rs), table-in 24 (λ o. howMany (λ f. eqb (dayHourOf f) o) rs) (λ o. omega (arith, many-most (λ f. eqb (dayHourOf f) o) rs)));
       below = k .0;
       sum = k .1;
       ages = omega (arith, k .2);

@@ -36,13 +36,13 @@ usable l =
     && all isCount (take 3 (drop 58 l))
 
 -- a number that is not below zero
-abbrev pub fromZero : ℤ → ℕ
-fromZero (pos n) = n
-fromZero (negsuc n) = 0
+abbrev pub positivePart : ℤ → ℕ
+positivePart (pos n) = n
+positivePart (negsuc n) = 0
 
 -- the nearest of 0 to a limit
 unfoldable pub nearest : (limit : ℕ) → ℤ → ℕ
-nearest limit z = min (fromZero z) limit
+nearest limit z = min (positivePart z) limit
 
 -- a number as a count, as a sum of ages, and as one of ages below zero; one that is none counts as the nearest that is
 abbrev pub countIn : ℤ → ℕ

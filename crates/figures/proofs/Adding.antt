@@ -21,8 +21,8 @@ use Rattle.record.proofs.Keeping.{known-most}
 use Rattle.record.proofs.Record.{the-type}
 use Rattle.record.proofs.RoundTrip.{read-known, refusals, refusal-shows-nothing}
 use Rattle.figures.specs.declared.Figures.{Figures}
-use Rattle.figures.specs.Figures.{recordLimit, sumLimit, fieldsIn, weekdayOf, hourOf, belowZero, isFromZero, fromZero}
-use Rattle.figures.specs.Contract.{more, added, raised, withFields, withRefused, withShown, withRecord, roomFor}
+use Rattle.figures.specs.Figures.{recordLimit, sumLimit, fieldsShown, weekdayOf, dayHourOf, belowZero, isFromZero, fromZero}
+use Rattle.figures.specs.Contract.{more, summed, raised, withFields, withRefused, withShown, withRecord, roomFor}
 
 -- ---- counts and sums that stop
 pub more-in : (n : ℕ) → n < recordLimit → n + 1 ≡ more n
@@ -33,12 +33,12 @@ pub more-out : (n : ℕ) → recordLimit ≤ n → recordLimit ≡ more n
 unfolding more
 more-out n h = omega arith
 
-pub added-in : (sum x : ℕ) → sum + x ≤ sumLimit → sum + x ≡ added sum x
-unfolding added
+pub added-in : (sum x : ℕ) → sum + x ≤ sumLimit → sum + x ≡ summed sum x
+unfolding summed
 added-in sum x h = omega arith
 
-pub added-out : (sum x : ℕ) → sumLimit ≤ sum + x → sumLimit ≡ added sum x
-unfolding added
+pub added-out : (sum x : ℕ) → sumLimit ≤ sum + x → sumLimit ≡ summed sum x
+unfolding summed
 added-out sum x h = omega arith
 
 pub raised-by : (l : List ℕ) (i m : ℕ) → m ≡ more (getD l i 0) → set l i m ≡ raised l i
@@ -87,12 +87,12 @@ module _ (n : ℕ) (age : LastAuthentication) where
 pub fields-more : (g : Figures) (f : Fields) {answers weekdays hours : List ℕ} {below sum ages given b p : ℕ} {t : Bool}
     → answers ≡ raised (g .answers) (f .number)
     → weekdays ≡ raised (g .weekdays) (weekdayOf f)
-    → hours ≡ raised (g .hours) (hourOf f)
+    → hours ≡ raised (g .hours) (dayHourOf f)
     → b ≡ belowZero (f .number) (storedAge (f .age))
     → p ≡ fromZero (f .number) (storedAge (f .age))
     → t ≡ isFromZero (f .number) (storedAge (f .age))
-    → below ≡ added (g .below) b
-    → sum ≡ added (g .sum) p
+    → below ≡ summed (g .below) b
+    → sum ≡ summed (g .sum) p
     → ages ≡ cond t (more (g .ages)) (g .ages)
     → given ≡ more (g .given)
     → _≡_ {A = Figures} (record { answers = answers; weekdays = weekdays; hours = hours; below = below; sum = sum; ages = ages; refused = g .refused; given = given }) (withFields g f)
@@ -105,12 +105,12 @@ unfolding withRefused
 refused-more g p q = rw (p, q)
 
 -- the fields that a record shows
-pub fields-shown : (s : List ℕ) (f : Fields) → recordIn s ≡ Stored f → fieldsIn s ≡ some f
-unfolding fieldsIn recordTold
+pub fields-shown : (s : List ℕ) (f : Fields) → recordIn s ≡ Stored f → fieldsShown s ≡ some f
+unfolding fieldsShown recordTold
 fields-shown s f e = ap (λ r. recordTold r .shown) e
 
-pub fields-refused : (s : List ℕ) (q : Record) → q ≡ recordIn s → OneOf refusals (tagOf the-type q) → fieldsIn s ≡ none
-unfolding fieldsIn
+pub fields-refused : (s : List ℕ) (q : Record) → q ≡ recordIn s → OneOf refusals (tagOf the-type q) → fieldsShown s ≡ none
+unfolding fieldsShown
 fields-refused s q e h = ap (λ r. recordTold r .shown) (sym e) ∙ refusal-shows-nothing q h
 
 pub record-stored : (g : Figures) (s : List ℕ) (f : Fields) {r : Figures} → recordIn s ≡ Stored f → r ≡ withFields g f → r ≡ withRecord g s

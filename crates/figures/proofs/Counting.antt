@@ -21,8 +21,8 @@ use Rattle.record.proofs.Ages.{stored-small}
 use Rattle.record.proofs.Keeping.{known-most}
 use Rattle.record.proofs.RoundTrip.{Storable, read-known}
 use Rattle.figures.specs.declared.Figures.{Figures}
-use Rattle.figures.specs.Figures.{recordLimit, fieldsIn, passes, amountOf, isRefused, howMany, total, refusedOf, weekdayOf, hourOf, belowZero, isFromZero, fromZero, table, figuresOf}
-use Rattle.figures.specs.Contract.{more, added, raised, withFields, withRefused, withShown, withRecord, withAll}
+use Rattle.figures.specs.Figures.{recordLimit, fieldsShown, passesTest, amountOf, isRefused, howMany, total, refusedOf, weekdayOf, dayHourOf, belowZero, isFromZero, fromZero, table, figuresOf}
+use Rattle.figures.specs.Contract.{more, summed, raised, withFields, withRefused, withShown, withRecord, withAll}
 use Rattle.figures.proofs.Adding.{more-in, added-in}
 use Rattle.figures.proofs.Tables.{OneMore, table-same, raised-table}
 
@@ -52,8 +52,8 @@ module _ {A : Type 0} (test : A → Bool) where
 
 -- ---- one record
 -- the fields that a record shows are those that were read
-pub shown-stored : (s : List ℕ) (f : Fields) → fieldsIn s ≡ some f → recordIn s ≡ Stored f
-unfolding fieldsIn recordTold
+pub shown-stored : (s : List ℕ) (f : Fields) → fieldsShown s ≡ some f → recordIn s ≡ Stored f
+unfolding fieldsShown recordTold
 shown-stored s f = go (recordIn s)
   where
     go : (r : Record) → recordTold r .shown ≡ some f → r ≡ Stored f
@@ -64,7 +64,7 @@ shown-stored s f = go (recordIn s)
     go WrongLength e = cc
 
 -- what is known of fields that a record shows
-pub shown-known : (s : List ℕ) (f : Fields) → fieldsIn s ≡ some f → Storable f
+pub shown-known : (s : List ℕ) (f : Fields) → fieldsShown s ≡ some f → Storable f
 shown-known s f e = read-known s f (shown-stored s f e)
 
 -- a record shows fields, or it is refused
@@ -76,35 +76,35 @@ cases none = inr refl
 module _ (test : Fields → Bool) where
   pub many-most : (rs : List (List ℕ)) → howMany test rs ≤ length rs
   unfolding howMany
-  many-most rs = count-most (λ s. passes test (fieldsIn s)) rs
+  many-most rs = count-most (λ s. passesTest test (fieldsShown s)) rs
 
-  many-snoc : (rs : List (List ℕ)) (s : List ℕ) → howMany test (rs ++ (s ∷ [])) ≡ howMany test rs + cond (passes test (fieldsIn s)) 1 0
+  many-snoc : (rs : List (List ℕ)) (s : List ℕ) → howMany test (rs ++ (s ∷ [])) ≡ howMany test rs + cond (passesTest test (fieldsShown s)) 1 0
   unfolding howMany
-  many-snoc rs s = count-snoc (λ x. passes test (fieldsIn x)) rs s
+  many-snoc rs s = count-snoc (λ x. passesTest test (fieldsShown x)) rs s
 
-  many-fields : (rs : List (List ℕ)) (s : List ℕ) (f : Fields) → fieldsIn s ≡ some f → howMany test (rs ++ (s ∷ [])) ≡ howMany test rs + cond (test f) 1 0
+  many-fields : (rs : List (List ℕ)) (s : List ℕ) (f : Fields) → fieldsShown s ≡ some f → howMany test (rs ++ (s ∷ [])) ≡ howMany test rs + cond (test f) 1 0
   many-fields rs s f e = rw (many-snoc rs s, e)
 
-  many-refused : (rs : List (List ℕ)) (s : List ℕ) → fieldsIn s ≡ none → howMany test (rs ++ (s ∷ [])) ≡ howMany test rs
+  many-refused : (rs : List (List ℕ)) (s : List ℕ) → fieldsShown s ≡ none → howMany test (rs ++ (s ∷ [])) ≡ howMany test rs
   many-refused rs s e = rw (many-snoc rs s, e) (omega arith)
 
 module _ (amount : Fields → ℕ) where
-  total-snoc : (rs : List (List ℕ)) (s : List ℕ) → total amount (rs ++ (s ∷ [])) ≡ total amount rs + amountOf amount (fieldsIn s)
+  total-snoc : (rs : List (List ℕ)) (s : List ℕ) → total amount (rs ++ (s ∷ [])) ≡ total amount rs + amountOf amount (fieldsShown s)
   unfolding total
   total-snoc [] s = omega arith
   total-snoc (x ∷ rs) s = rw (total-snoc rs s) (omega arith)
 
   -- what no record's amount passes, times the records
-  total-most : (most : ℕ) → ((s : List ℕ) → amountOf amount (fieldsIn s) ≤ most) → (rs : List (List ℕ)) → total amount rs ≤ length rs * most
+  total-most : (most : ℕ) → ((s : List ℕ) → amountOf amount (fieldsShown s) ≤ most) → (rs : List (List ℕ)) → total amount rs ≤ length rs * most
   unfolding total
   total-most most h [] = omega arith
   total-most most h (s ∷ rs) = omega (arith, h s, total-most most h rs)
 
   -- no amount of an age passes the largest size that is stored
-  amount-most : ((f : Fields) → amount f ≤ sizeOf (f .age)) → (s : List ℕ) → amountOf amount (fieldsIn s) ≤ largestSize
-  amount-most h s = go (cases (fieldsIn s))
+  amount-most : ((f : Fields) → amount f ≤ sizeOf (f .age)) → (s : List ℕ) → amountOf amount (fieldsShown s) ≤ largestSize
+  amount-most h s = go (cases (fieldsShown s))
     where
-      go : ((f : Fields) × (fieldsIn s ≡ some f)) ⊎ (fieldsIn s ≡ none) → amountOf amount (fieldsIn s) ≤ largestSize
+      go : ((f : Fields) × (fieldsShown s ≡ some f)) ⊎ (fieldsShown s ≡ none) → amountOf amount (fieldsShown s) ≤ largestSize
       go (inl p) = rw (p .1) (omega (arith, h (p .0), shown-known s (p .0) (p .1) .age))
       go (inr e) = rw e (omega arith)
 
@@ -112,20 +112,20 @@ module _ (amount : Fields → ℕ) where
   ages-most h rs = total-most largestSize (amount-most h) rs
 
 -- by a key: one more at the record's own
-module _ (key : Fields → ℕ) (rs : List (List ℕ)) (s : List ℕ) (f : Fields) (e : fieldsIn s ≡ some f) where
+module _ (key : Fields → ℕ) (rs : List (List ℕ)) (s : List ℕ) (f : Fields) (e : fieldsShown s ≡ some f) where
   key-more : OneMore (key f) (λ n. howMany (λ q. eqb (key q) n) rs) (λ n. howMany (λ q. eqb (key q) n) (rs ++ (s ∷ [])))
   key-more = record {
     here = rw (many-fields (λ q. eqb (key q) (key f)) rs s f e, eq-eqb (key f) (key f) refl);
     there = λ j h. rw (many-fields (λ q. eqb (key q) j) rs s f e, ne-eqb (key f) j h) (omega arith);
   }
 
-refused-snoc : (rs : List (List ℕ)) (s : List ℕ) → refusedOf (rs ++ (s ∷ [])) ≡ refusedOf rs + cond (isRefused (fieldsIn s)) 1 0
+refused-snoc : (rs : List (List ℕ)) (s : List ℕ) → refusedOf (rs ++ (s ∷ [])) ≡ refusedOf rs + cond (isRefused (fieldsShown s)) 1 0
 unfolding refusedOf
-refused-snoc rs s = count-snoc (λ x. isRefused (fieldsIn x)) rs s
+refused-snoc rs s = count-snoc (λ x. isRefused (fieldsShown x)) rs s
 
 pub refused-most : (rs : List (List ℕ)) → refusedOf rs ≤ length rs
 unfolding refusedOf
-refused-most rs = count-most (λ s. isRefused (fieldsIn s)) rs
+refused-most rs = count-most (λ s. isRefused (fieldsShown s)) rs
 
 one-longer : (rs : List (List ℕ)) (s : List ℕ) → length (rs ++ (s ∷ [])) ≡ length rs + 1
 one-longer rs s = length-append rs (s ∷ [])
@@ -148,7 +148,7 @@ module _ (rs : List (List ℕ)) (s : List ℕ) (h : length rs < recordLimit) whe
   given-on : more (length rs) ≡ length (rs ++ (s ∷ []))
   given-on = rw (one-longer rs s) (sym (more-in (length rs) h))
 
-  module _ (f : Fields) (e : fieldsIn s ≡ some f) where
+  module _ (f : Fields) (e : fieldsShown s ≡ some f) where
     fits : Storable f
     fits = shown-known s f e
 
@@ -160,7 +160,7 @@ module _ (rs : List (List ℕ)) (s : List ℕ) (h : length rs < recordLimit) whe
         raised-table n (key f) (λ i. howMany (λ q. eqb (key q) i) rs) (λ i. howMany (λ q. eqb (key q) i) (rs ++ (s ∷ []))) k
         (omega (arith, many-most (λ q. eqb (key q) (key f)) rs)) (key-more key rs s f e)
 
-    sum-on : (amount : Fields → ℕ) → ((q : Fields) → amount q ≤ sizeOf (q .age)) → added (total amount rs) (amount f) ≡ total amount (rs ++ (s ∷ []))
+    sum-on : (amount : Fields → ℕ) → ((q : Fields) → amount q ≤ sizeOf (q .age)) → summed (total amount rs) (amount f) ≡ total amount (rs ++ (s ∷ []))
     sum-on amount k =
         let t = ages-most amount k rs in
         let a = k f in
@@ -183,13 +183,13 @@ module _ (rs : List (List ℕ)) (s : List ℕ) (h : length rs < recordLimit) whe
         let k = known-most (f .number) (fits .number) in
         let a = by-key 24 (λ q. q .number) (omega arith) in
         let w = by-key 7 weekdayOf (omega (arith, fits .minute)) in
-        let o = by-key 24 hourOf (omega arith) in
+        let o = by-key 24 dayHourOf (omega arith) in
         let b = sum-on (λ q. belowZero (q .number) (q .age)) below-le in
         let p = sum-on (λ q. fromZero (q .number) (q .age)) from-le in
         let c = many-on (λ q. isFromZero (q .number) (q .age)) in
         rw (uncapped, a, w, o, b, p, c, given-on, refused-stays)
 
-  module _ (e : fieldsIn s ≡ none) where
+  module _ (e : fieldsShown s ≡ none) where
     refused-one : more (refusedOf rs) ≡ refusedOf (rs ++ (s ∷ []))
     refused-one = rw (refused-snoc rs s, e) (sym (more-in (refusedOf rs) (omega (arith, refused-most rs))))
 
@@ -207,7 +207,7 @@ module _ (rs : List (List ℕ)) (s : List ℕ) (h : length rs < recordLimit) whe
     refused-on =
         let a = by-key-too 24 (λ q. q .number) in
         let w = by-key-too 7 weekdayOf in
-        let o = by-key-too 24 hourOf in
+        let o = by-key-too 24 dayHourOf in
         let b = sum-too (λ q. belowZero (q .number) (q .age)) in
         let p = sum-too (λ q. fromZero (q .number) (q .age)) in
         let c = many-too (λ q. isFromZero (q .number) (q .age)) in
@@ -216,9 +216,9 @@ module _ (rs : List (List ℕ)) (s : List ℕ) (h : length rs < recordLimit) whe
   -- the figures of records and one more are the figures of all of them
   pub record-on : withRecord (figuresOf rs) s ≡ figuresOf (rs ++ (s ∷ []))
   unfolding withRecord
-  record-on = go (cases (fieldsIn s))
+  record-on = go (cases (fieldsShown s))
     where
-      go : ((f : Fields) × (fieldsIn s ≡ some f)) ⊎ (fieldsIn s ≡ none) → withShown (figuresOf rs) (fieldsIn s) ≡ figuresOf (rs ++ (s ∷ []))
+      go : ((f : Fields) × (fieldsShown s ≡ some f)) ⊎ (fieldsShown s ≡ none) → withShown (figuresOf rs) (fieldsShown s) ≡ figuresOf (rs ++ (s ∷ []))
       go (inl p) = rw (p .1) (fields-on (p .0) (p .1))
       go (inr e) = rw e (refused-on e)
 

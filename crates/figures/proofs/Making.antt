@@ -13,17 +13,17 @@ use Rattle.text.specs.Lists.{count}
 use Rattle.record.specs.declared.Fields.{Fields}
 use Rattle.record.proofs.Keeping.{known-most}
 use Rattle.record.proofs.RoundTrip.{Storable}
-use Rattle.figures.specs.Figures.{fieldsIn, passes, isRefused, howMany, refusedOf, weekdayOf, hourOf, table, figuresOf}
+use Rattle.figures.specs.Figures.{fieldsShown, passesTest, isRefused, howMany, refusedOf, weekdayOf, dayHourOf, table, figuresOf}
 use Rattle.figures.proofs.Tables.{OneMore, table-same, sumOf, sum-more, sum-none}
 use Rattle.figures.proofs.Counting.{count-cons, shown-known, cases}
 
-many-cons : (test : Fields → Bool) (s : List ℕ) (rs : List (List ℕ)) → howMany test (s ∷ rs) ≡ howMany test rs + cond (passes test (fieldsIn s)) 1 0
+many-cons : (test : Fields → Bool) (s : List ℕ) (rs : List (List ℕ)) → howMany test (s ∷ rs) ≡ howMany test rs + cond (passesTest test (fieldsShown s)) 1 0
 unfolding howMany
-many-cons test s rs = count-cons (λ x. passes test (fieldsIn x)) s rs
+many-cons test s rs = count-cons (λ x. passesTest test (fieldsShown x)) s rs
 
-refused-cons : (s : List ℕ) (rs : List (List ℕ)) → refusedOf (s ∷ rs) ≡ refusedOf rs + cond (isRefused (fieldsIn s)) 1 0
+refused-cons : (s : List ℕ) (rs : List (List ℕ)) → refusedOf (s ∷ rs) ≡ refusedOf rs + cond (isRefused (fieldsShown s)) 1 0
 unfolding refusedOf
-refused-cons s rs = count-cons (λ x. isRefused (fieldsIn x)) s rs
+refused-cons s rs = count-cons (λ x. isRefused (fieldsShown x)) s rs
 
 module _ (n : ℕ) (key : Fields → ℕ) (low : (f : Fields) → Storable f → key f < n) where
   -- how many have each key
@@ -35,18 +35,18 @@ module _ (n : ℕ) (key : Fields → ℕ) (low : (f : Fields) → Storable f →
   none-keyed = omega (arith, sum-none n)
 
   module _ (s : List ℕ) (rs : List (List ℕ)) (i : sumOf (table n (keyed rs)) + refusedOf rs ≡ length rs) where
-    keyed-more : (f : Fields) → fieldsIn s ≡ some f → OneMore (key f) (keyed rs) (keyed (s ∷ rs))
+    keyed-more : (f : Fields) → fieldsShown s ≡ some f → OneMore (key f) (keyed rs) (keyed (s ∷ rs))
     unfolding keyed
     keyed-more f e = record {
       here = rw (many-cons (λ q. eqb (key q) (key f)) s rs, e, eq-eqb (key f) (key f) refl);
       there = λ j h. rw (many-cons (λ q. eqb (key q) j) s rs, e, ne-eqb (key f) j h) (omega arith);
     }
 
-    keyed-same : fieldsIn s ≡ none → (j : ℕ) → keyed (s ∷ rs) j ≡ keyed rs j
+    keyed-same : fieldsShown s ≡ none → (j : ℕ) → keyed (s ∷ rs) j ≡ keyed rs j
     unfolding keyed
     keyed-same e j = rw (many-cons (λ q. eqb (key q) j) s rs, e) (omega arith)
 
-    counts-on : ((f : Fields) × (fieldsIn s ≡ some f)) ⊎ (fieldsIn s ≡ none) → sumOf (table n (keyed (s ∷ rs))) + refusedOf (s ∷ rs) ≡ suc (length rs)
+    counts-on : ((f : Fields) × (fieldsShown s ≡ some f)) ⊎ (fieldsShown s ≡ none) → sumOf (table n (keyed (s ∷ rs))) + refusedOf (s ∷ rs) ≡ suc (length rs)
     counts-on (inl p) =
         let k = sum-more n (key (p .0)) (keyed rs) (keyed (s ∷ rs)) (low (p .0) (shown-known s (p .0) (p .1))) (keyed-more (p .0) (p .1)) in
         rw (refused-cons s rs, p .1, k) (omega arith)
@@ -56,7 +56,7 @@ module _ (n : ℕ) (key : Fields → ℕ) (low : (f : Fields) → Storable f →
 
   counts-make : (rs : List (List ℕ)) → sumOf (table n (keyed rs)) + refusedOf rs ≡ length rs
   counts-make [] = none-keyed
-  counts-make (s ∷ rs) = counts-on s rs (counts-make rs) (cases (fieldsIn s))
+  counts-make (s ∷ rs) = counts-on s rs (counts-make rs) (cases (fieldsShown s))
 
 module _ (rs : List (List ℕ)) where
   -- "The answer counts and the refused records together make the number given"
@@ -72,4 +72,4 @@ module _ (rs : List (List ℕ)) where
   -- and the hours
   pub hours-make : sumOf (figuresOf rs .hours) + figuresOf rs .refused ≡ figuresOf rs .given
   unfolding figuresOf keyed
-  hours-make = counts-make 24 hourOf (λ f k. omega arith) rs
+  hours-make = counts-make 24 dayHourOf (λ f k. omega arith) rs

@@ -7,7 +7,7 @@ use lib.Dec.{eqb}
 use lib.IntN.{pos, negℤ, _-ℤ_, +ℤ-idl}
 use lib.ListN.{length, getD, List·getD-eq-default}
 use Rattle.figures.specs.declared.Figures.{Figures}
-use Rattle.figures.specs.Figures.{recordLimit, sumLimit, howMany, weekdayOf, hourOf, isFromZero, figuresOf, belowSum}
+use Rattle.figures.specs.Figures.{recordLimit, sumLimit, howMany, weekdayOf, dayHourOf, isFromZero, figuresOf, belowSum}
 use Rattle.figures.proofs.Tables.{table-at}
 use Rattle.figures.proofs.Counting.{many-most, below-most, from-most, refused-most}
 use mir.Syntax.{w64}
@@ -46,9 +46,9 @@ module _ (rs : List (List ℕ)) where
   unfolding figuresOf
   weekdays-at d h = table-at 7 d (λ i. howMany (λ f. eqb (weekdayOf f) i) rs) h
 
-  pub hours-at : (o : ℕ) → o < 24 → getD (figuresOf rs .hours) o 0 ≡ howMany (λ f. eqb (hourOf f) o) rs
+  pub hours-at : (o : ℕ) → o < 24 → getD (figuresOf rs .hours) o 0 ≡ howMany (λ f. eqb (dayHourOf f) o) rs
   unfolding figuresOf
-  hours-at o h = table-at 24 o (λ i. howMany (λ f. eqb (hourOf f) i) rs) h
+  hours-at o h = table-at 24 o (λ i. howMany (λ f. eqb (dayHourOf f) i) rs) h
 
   -- nothing overflows: the sums of up to 1,000,000 records, and the counts beside them
   pub sums-fit : length rs ≤ recordLimit → (figuresOf rs .below ≤ sumLimit) × (figuresOf rs .sum ≤ sumLimit) × (figuresOf rs .ages ≤ length rs) × (figuresOf rs .refused ≤ length rs)

@@ -14,7 +14,7 @@ use Rattle.figures.specs.declared.Figures.{Figures}
 use Rattle.figures.specs.declared.Fed.{Fed}
 use Rattle.figures.specs.declared.feed.Totals.{Totals}
 use Rattle.figures.specs.declared.Feeding.the-variants.{NotWhole}
-use Rattle.figures.specs.Figures.{recordLimit, sumLimit, recordsIn, fieldsIn, weekdayOf, hourOf, belowZero, isFromZero, fromZero, figuresOf}
+use Rattle.figures.specs.Figures.{recordLimit, sumLimit, recordsIn, fieldsShown, weekdayOf, dayHourOf, belowZero, isFromZero, fromZero, figuresOf}
 use Rattle.figures.specs.Feed.{feedAnswer, recordsAfter}
 
 -- ---- one record more
@@ -27,8 +27,8 @@ unfoldable pub more : ℕ → ℕ
 more n = min (suc n) recordLimit
 
 -- a sum and an amount more
-unfoldable pub added : ℕ → ℕ → ℕ
-added sum x = min (sum + x) sumLimit
+unfoldable pub summed : ℕ → ℕ → ℕ
+summed sum x = min (sum + x) sumLimit
 
 -- counts with one more at a place
 unfoldable pub raised : List ℕ → ℕ → List ℕ
@@ -39,9 +39,9 @@ unfoldable pub withFields : Figures → Fields → Figures
 withFields g f = record {
   answers = raised (g .answers) (f .number);
   weekdays = raised (g .weekdays) (weekdayOf f);
-  hours = raised (g .hours) (hourOf f);
-  below = added (g .below) (belowZero (f .number) (storedAge (f .age)));
-  sum = added (g .sum) (fromZero (f .number) (storedAge (f .age)));
+  hours = raised (g .hours) (dayHourOf f);
+  below = summed (g .below) (belowZero (f .number) (storedAge (f .age)));
+  sum = summed (g .sum) (fromZero (f .number) (storedAge (f .age)));
   ages = cond (isFromZero (f .number) (storedAge (f .age))) (more (g .ages)) (g .ages);
   refused = g .refused;
   given = more (g .given);
@@ -66,7 +66,7 @@ withShown g none = withRefused g
 
 -- the figures with one record more
 unfoldable pub withRecord : Figures → List ℕ → Figures
-withRecord g s = withShown g (fieldsIn s)
+withRecord g s = withShown g (fieldsShown s)
 
 -- several records more, one after the other
 unfoldable pub withAll : Figures → List (List ℕ) → Figures

@@ -27,11 +27,11 @@ unfoldable pub recordsAfter : List (List ℕ) → List ℕ → List (List ℕ)
 recordsAfter rs batch = cond (eqb (length batch % recordLength) 0) (firstRecords (rs ++ recordsOf batch)) rs
 
 -- the number of an answer, 0 for no refusal, and how many records lie past the limit where the batch was looked at
-pub record Told : Type 0 where
+pub record BatchTold : Type 0 where
   pub number : ℕ
   pub past : Option ℕ
 
-unfoldable pub feedTold : Feeding → Told
+unfoldable pub feedTold : Feeding → BatchTold
 feedTold Taken = record { number = 0; past = some 0 }
 feedTold NotWhole = record { number = 1; past = none }
 feedTold (PastLimit n) = record { number = 2; past = some n }

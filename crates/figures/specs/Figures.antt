@@ -34,14 +34,14 @@ unfoldable pub recordsOf : List ℕ → List (List ℕ)
 recordsOf s = recordsIn (length s / recordLength) s
 
 -- the fields that a record shows; none where (ii) refuses it
-unfoldable pub fieldsIn : List ℕ → Option Fields
-fieldsIn s = recordTold (recordIn s) .shown
+unfoldable pub fieldsShown : List ℕ → Option Fields
+fieldsShown s = recordTold (recordIn s) .shown
 
 -- ---- counting and adding
--- "A record that (ii) refuses counts as refused only": no test of it passes, and it has nothing of any amount
-abbrev pub passes : (Fields → Bool) → Option Fields → Bool
-passes test (some f) = test f
-passes test none = false
+-- "A record that (ii) refuses counts as refused only": it passes no test, and it has nothing of any amount
+abbrev pub passesTest : (Fields → Bool) → Option Fields → Bool
+passesTest test (some f) = test f
+passesTest test none = false
 
 abbrev pub amountOf : (Fields → ℕ) → Option Fields → ℕ
 amountOf amount (some f) = amount f
@@ -54,25 +54,25 @@ isRefused none = true
 
 -- how many records pass a test
 unfoldable pub howMany : (Fields → Bool) → List (List ℕ) → ℕ
-howMany test rs = count (λ s. passes test (fieldsIn s)) rs
+howMany test rs = count (λ s. passesTest test (fieldsShown s)) rs
 
 -- what they have together of an amount
 unfoldable pub total : (Fields → ℕ) → List (List ℕ) → ℕ
 total amount [] = 0
-total amount (s ∷ rs) = amountOf amount (fieldsIn s) + total amount rs
+total amount (s ∷ rs) = amountOf amount (fieldsShown s) + total amount rs
 
 -- how many are refused
 unfoldable pub refusedOf : List (List ℕ) → ℕ
-refusedOf rs = count (λ s. isRefused (fieldsIn s)) rs
+refusedOf rs = count (λ s. isRefused (fieldsShown s)) rs
 
--- ---- what is counted and added
+-- ---- what is counted and summed
 -- the weekday; Monday is 0
 abbrev pub weekdayOf : Fields → ℕ
 weekdayOf f = f .minute .0 / dayMinutes
 
 -- "hour of the day"
-abbrev pub hourOf : Fields → ℕ
-hourOf f = f .minute .0 / 60 % 24
+abbrev pub dayHourOf : Fields → ℕ
+dayHourOf f = f .minute .0 / 60 % 24
 
 -- "ages of records with answer 0 or 1, apart for those below zero": how far below; "never" has the sign but no size, and adds nothing
 unfoldable pub belowZero : (number : ℕ) → LastAuthentication → ℕ
@@ -96,7 +96,7 @@ unfoldable pub figuresOf : List (List ℕ) → Figures
 figuresOf rs = record {
   answers = table 24 (λ n. howMany (λ f. eqb (f .number) n) rs);
   weekdays = table 7 (λ d. howMany (λ f. eqb (weekdayOf f) d) rs);
-  hours = table 24 (λ h. howMany (λ f. eqb (hourOf f) h) rs);
+  hours = table 24 (λ h. howMany (λ f. eqb (dayHourOf f) h) rs);
   below = total (λ f. belowZero (f .number) (f .age)) rs;
   sum = total (λ f. fromZero (f .number) (f .age)) rs;
   ages = howMany (λ f. isFromZero (f .number) (f .age)) rs;

@@ -6,7 +6,7 @@ use record::age::size_of;
 ghost use mathlib.Core.Path.{_≡_};
 ghost use Rattle.record.specs.Stored.{storedAge};
 ghost use Rattle.figures.specs.Figures.{belowZero, fromZero, isFromZero};
-ghost use Rattle.figures.specs.Contract.{added};
+ghost use Rattle.figures.specs.Contract.{summed};
 
 // How far an age of an answer 0 or 1 lies below zero; 0 for every other.
 pub fn below_zero(number: u8, age: LastAuthentication) -> u64
@@ -43,7 +43,7 @@ pub fn from_zero(number: u8, age: LastAuthentication) -> u64
 
 // The sum and one amount more, as far as the sum's limit.
 pub fn add_to(sum: u64, amount: u64) -> u64
-    ensures { λ r. ⌜ r ≡ added sum amount ⌝ }
+    ensures { λ r. ⌜ r ≡ summed sum amount ⌝ }
 {
     if sum >= Figures::SUM {
         return Figures::SUM;

@@ -12,7 +12,7 @@ use Rattle.figures.specs.declared.Feeding.the-variants.{Taken, NotWhole, PastLi
 use Rattle.figures.specs.Feed.{feedTold}
 use Rattle.figure_numbers.specs.declared.lent.FedNumbers.{FedNumbers}
 use Rattle.figure_numbers.specs.declared.lent.FedNumbers.the-variants.{Unusable, Fed}
-use Rattle.figure_numbers.specs.Contract.{Clears, numbersAnswer, numbersAfter, FeedsNumbers}
+use Rattle.figure_numbers.specs.Contract.{Clears, numbersAnswer, numbersFed, FeedsNumbers}
 use Rattle.supertab_c.specs.Report.{counted}
 use Rattle.supertab_c.specs.Call.{shortReport}
 use Rattle.supertab_c.specs.Figures.{newNumbers, newCall, fedTold, pastAfter, fed, tellsFed, feedCall, CallFeeds}

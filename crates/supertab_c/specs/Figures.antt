@@ -8,11 +8,11 @@ use lib.Dec.{eqb, leb}
 use lib.IntN.{ℤ}
 use lib.ListN.{length, take, drop}
 use Rattle.figures.specs.Figures.{recordLimit, figuresOf}
-use Rattle.figures.specs.Feed.{recordsAfter, Told, feedTold}
+use Rattle.figures.specs.Feed.{recordsAfter, BatchTold, feedTold}
 use Rattle.figure_numbers.specs.declared.lent.FedNumbers.{FedNumbers}
 use Rattle.figure_numbers.specs.declared.lent.FedNumbers.the-variants.{Unusable, Fed}
 use Rattle.figure_numbers.specs.Numbers.{numbersLength, numbersOf}
-use Rattle.figure_numbers.specs.Contract.{cleared, numbersAnswer, numbersAfter}
+use Rattle.figure_numbers.specs.Contract.{cleared, numbersAnswer, numbersFed}
 use Rattle.supertab_c.specs.Report.{counted}
 use Rattle.supertab_c.specs.Call.{shortReport}
 
@@ -32,7 +32,7 @@ newCall l = newNumbers (cond (leb numbersLength (length l)) 0 shortReport) (clea
 
 -- ---- a batch
 -- the number of every answer, and how many records lie past the limit where the batch was looked at
-unfoldable pub fedTold : FedNumbers → Told
+unfoldable pub fedTold : FedNumbers → BatchTold
 fedTold Unusable = record { number = shortReport; past = none }
 fedTold (Fed a) = feedTold a
 
@@ -53,7 +53,7 @@ fed n l p = record { number = n; figures = l; refused = p }
 
 -- the answer to a batch, as the call tells it
 unfoldable pub tellsFed : FedNumbers → List ℤ → List ℕ → List ℤ → FeedCall
-tellsFed a old batch past = fed (fedTold a .number) (numbersAfter a old batch) (pastAfter (fedTold a .past) past)
+tellsFed a old batch past = fed (fedTold a .number) (numbersFed a old batch) (pastAfter (fedTold a .past) past)
 
 -- 255 first, where there is no room to tell the records past the limit, and then nothing is written
 unfoldable pub feedCall : List ℤ → List ℕ → List ℤ → FeedCall

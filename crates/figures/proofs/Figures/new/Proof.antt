@@ -1,6 +1,6 @@
 use mathlib.Core.Path.{refl}
 use Rattle.text.specs.Lists.{count}
-use Rattle.figures.specs.Figures.{fieldsIn, howMany, total, refusedOf, table, figuresOf}
+use Rattle.figures.specs.Figures.{fieldsShown, howMany, total, refusedOf, table, figuresOf}
 use Rattle.figures.proofs.Figures.new.Statement.{statement}
 use Rattle.figures.proofs.Figures.new.Tie as tie
 
