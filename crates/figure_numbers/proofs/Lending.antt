@@ -1,8 +1,7 @@
 -- The two calls on lent numbers.
 use mathlib.Core.Path.{_≡_, refl, sym, ap, _∙_}
-use mathlib.Core.Bool.{Bool, true, false, cond, _&&_}
+use mathlib.Core.Bool.{Bool, true, false}
 use mathlib.Core.List.{List, [], _++_}
-use mathlib.Core.Option.{none, some}
 use Prim.Native.Nat.{ℕ, _≤_, _<_}
 use native.Mathlib.Omega.{arith}
 use borrow.Author.Tests.{le-leb, lt-leb}
@@ -17,10 +16,10 @@ use Rattle.figures.specs.Figures.{recordLimit, figuresOf}
 use Rattle.figures.specs.Feed.{recordsAfter, feedTold}
 use Rattle.figures.specs.Contract.{fedWith, Feeds}
 use Rattle.figures.proofs.Dividing.{after-most}
-use Rattle.figure_numbers.specs.declared.lent.FedNumbers.the-variants as lent
 use Rattle.figure_numbers.specs.Contract.{withFigures, cleared, Clears, canFeed, numbersAnswer, figuresWhere, numbersFed, FeedsNumbers}
 use Rattle.figure_numbers.specs.Numbers.{numbersLength, usable, figuresIn, numbersOf}
 use Rattle.figure_numbers.proofs.Places.{figures-back, figures-usable, figures-in-bounds, numbers-length}
+use Rattle.figure_numbers.specs.declared.lent.FedNumbers.the-variants as lent
 
 -- ---- the figures of no records
 pub clears-short : (old : List ℤ) → length old < numbersLength → Clears old old false

@@ -1,20 +1,20 @@
 -- The 64 numbers of figures, read back as these figures.
 use mathlib.Core.Path.{_≡_, refl, sym, ap, _∙_}
-use mathlib.Core.Bool.{Bool, true, _&&_}
+use mathlib.Core.Bool.{Bool, true}
 use mathlib.Core.List.{List, [], _∷_, _++_, map, append-assoc}
 use Prim.Native.Nat.{ℕ, zero, suc, min, _+_, _≤_}
 use native.Mathlib.Omega.{arith}
 use borrow.Author.Tests.{le-leb, leb-true}
 use lib.Dec.{eqb, leb}
-use lib.IntN.{ℤ, pos, negsuc, negℤ}
-use lib.ListN.{length, length-append, length-map, getD, take, drop}
+use lib.IntN.{ℤ, pos, negℤ}
+use lib.ListN.{length, length-append, length-map, take, drop}
 use lib.Seq.{take-at, drop-at, drop-append-add, getD-append-add}
 use Rattle.text.specs.Lists.{all}
 use Rattle.text.proofs.Laws.{both-true, both-of}
 use Rattle.text.proofs.Lists.{all-append}
-use Rattle.figures.specs.Figures.{recordLimit, sumLimit, howMany, weekdayOf, dayHourOf, isFromZero, table, figuresOf, belowSum}
+use Rattle.figures.specs.Figures.{recordLimit, sumLimit, howMany, weekdayOf, dayHourOf, table, figuresOf, belowSum}
 use Rattle.figures.specs.declared.Figures.{Figures}
-use Rattle.figures.proofs.Counting.{many-most, refused-most}
+use Rattle.figures.proofs.Counting.{many-most}
 use Rattle.figures.proofs.Reporting.{sums-fit}
 use Rattle.figure_numbers.specs.Contract.{canFeed}
 use Rattle.figure_numbers.specs.Numbers.{numbersLength, isBetween, isCount, numberAt, usable, nearest, countIn, sumIn, belowIn, figuresIn, sumNumber, totalsOf, numbersOf}

@@ -7,13 +7,13 @@ use native.Mathlib.Numerals.{add-one}
 use native.Mathlib.Omega.{arith}
 use lib.IntN.{ℤ, pos}
 use lib.ListN.{length, drop-of-length-le, length-append, length-map, length-take, length-drop, List·getD-map, getD, take, drop, set}
-use lib.Seq.{paste, paste-zero, paste-suc, take-all, take-at, drop-drop, drop-append-add, getD-take, getD-drop}
+use lib.Seq.{paste, paste-suc, take-all, take-at, drop-drop, drop-append-add, getD-take, getD-drop}
 use Rattle.figures.specs.Figures.{belowSum}
 use Rattle.figures.specs.declared.Figures.{Figures}
+use Rattle.figure_numbers.specs.Numbers.{numberAt, countIn, sumIn, belowIn, figuresIn, sumNumber, totalsOf, numbersOf}
 use mir.Syntax.{w64}
 use mir.Val.{SFits, toZ, ofZ}
 use mir.ValLaws.{toZ-ofZ}
-use Rattle.figure_numbers.specs.Numbers.{numberAt, countIn, sumIn, belowIn, figuresIn, sumNumber, totalsOf, numbersOf}
 
 -- ---- element by element
 module _ {A : Type 0} (d : A) (old xs new : List A) (at i : ℕ) (e : new ≡ paste old at xs i) where

@@ -3,12 +3,10 @@ use mathlib.Core.Path.{_≡_, sym, ap, _∙_}
 use mathlib.Core.Bool.{Bool, true, false, not, cond}
 use mathlib.Core.List.{List}
 use mathlib.Core.Option.{none, some}
-use Prim.Native.Nat.{ℕ, suc, min, _+_, _-_, _≤_, _<_}
+use Prim.Native.Nat.{ℕ, min, _+_, _-_, _≤_, _<_}
 use native.Mathlib.Omega.{arith}
 use borrow.Author.Tests.{le-leb, lt-leb}
 use lib.ListN.{getD, set}
-use denote.Enum.Declared.{tagOf}
-use types.Run.{OneOf}
 use Rattle.question.specs.Question.{weekMinutes}
 use Rattle.question.specs.declared.LastAuthentication.{LastAuthentication}
 use Rattle.record.specs.declared.Fields.{Fields}
@@ -22,7 +20,9 @@ use Rattle.record.proofs.Record.{the-type}
 use Rattle.record.proofs.RoundTrip.{read-known, refusals, refusal-shows-nothing}
 use Rattle.figures.specs.declared.Figures.{Figures}
 use Rattle.figures.specs.Figures.{recordLimit, sumLimit, fieldsShown, weekdayOf, dayHourOf, belowZero, isFromZero, fromZero}
-use Rattle.figures.specs.Contract.{more, summed, raised, withFields, withRefused, withShown, withRecord, roomFor}
+use Rattle.figures.specs.Contract.{more, summed, raised, withFields, withRefused, withRecord, roomFor}
+use denote.Enum.Declared.{tagOf}
+use types.Run.{OneOf}
 
 -- ---- counts and sums that stop
 pub more-in : (n : ℕ) → n < recordLimit → n + 1 ≡ more n

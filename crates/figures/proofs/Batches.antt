@@ -6,7 +6,6 @@ use native.Mathlib.Omega.{arith}
 use borrow.Author.Tests.{eq-eqb, ne-eqb, le-leb, lt-leb}
 use lib.ListN.{length, take, drop}
 use lib.Seq.{drop-drop, take-append-add}
-use Rattle.record.specs.Layout.{recordLength}
 use Rattle.figures.specs.declared.Figures.{Figures}
 use Rattle.figures.specs.declared.Feeding.the-variants.{Taken, NotWhole, PastLimit}
 use Rattle.figures.specs.Figures.{recordLimit, recordsIn, recordsOf, figuresOf}

@@ -20,7 +20,6 @@ use Rattle.record.specs.Read.{recordIn, recordTold}
 use Rattle.record.proofs.Ages.{stored-small}
 use Rattle.record.proofs.Keeping.{known-most}
 use Rattle.record.proofs.RoundTrip.{Storable, read-known}
-use Rattle.figures.specs.declared.Figures.{Figures}
 use Rattle.figures.specs.Figures.{recordLimit, fieldsShown, passesTest, amountOf, isRefused, howMany, total, refusedOf, weekdayOf, dayHourOf, belowZero, isFromZero, fromZero, table, figuresOf}
 use Rattle.figures.specs.Contract.{more, summed, raised, withFields, withRefused, withShown, withRecord, withAll}
 use Rattle.figures.proofs.Adding.{more-in, added-in}

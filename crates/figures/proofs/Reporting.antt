@@ -1,7 +1,7 @@
 -- The figures one by one, and how large they can be.
 use mathlib.Core.Path.{_≡_, sym}
 use mathlib.Core.List.{List}
-use Prim.Native.Nat.{ℕ, zero, suc, min, _*_, _≤_, _<_}
+use Prim.Native.Nat.{ℕ, zero, suc, min, _≤_, _<_}
 use native.Mathlib.Omega.{arith}
 use lib.Dec.{eqb}
 use lib.IntN.{pos, negℤ, _-ℤ_, +ℤ-idl}

@@ -1,9 +1,7 @@
-use Rattle.figure_numbers.proofs.Nearest.{below-limit, below-none, turned-fits, turned-casts, turned-size}
 use borrow.Author.Needs.{needs}
+use Rattle.figure_numbers.proofs.Nearest.{below-limit, below-none, turned-fits, turned-casts, turned-size}
 use Rattle.figure_numbers.proofs.from_numbers.below_in.Statement.{statement}
 use Rattle.figure_numbers.proofs.from_numbers.below_in.Tie as tie
-use Rattle.figure_numbers.proofs.from_numbers.below_in.Reads as reads
-use Rattle.figure_numbers.proofs.from_numbers.below_in.Lts as lts
 
 cast-if1 : tie.Need-cast-if1
 cast-if1 c = search needs

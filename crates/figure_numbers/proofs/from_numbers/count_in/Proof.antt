@@ -1,12 +1,10 @@
 use native.Mathlib.Omega.{arith}
-use mir.Syntax.{w32}
+use borrow.Author.Needs.{needs}
 use Rattle.figures.specs.Figures.{recordLimit}
 use Rattle.figure_numbers.proofs.Nearest.{nearest-none, nearest-limit, nearest-casts, nearest-is}
-use borrow.Author.Needs.{needs}
 use Rattle.figure_numbers.proofs.from_numbers.count_in.Statement.{statement}
+use mir.Syntax.{w32}
 use Rattle.figure_numbers.proofs.from_numbers.count_in.Tie as tie
-use Rattle.figure_numbers.proofs.from_numbers.count_in.Reads as reads
-use Rattle.figure_numbers.proofs.from_numbers.count_in.Lts as lts
 
 returns : tie.Need-returns
 returns c = nearest-none _ _ (c .before .fits .n) (c .if1 .taken)

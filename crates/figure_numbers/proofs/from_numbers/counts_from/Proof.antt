@@ -10,9 +10,6 @@ use Rattle.figure_numbers.specs.Numbers.{countIn}
 use Rattle.figure_numbers.proofs.Placing.{put-first, paste-all, told-at, count-next, counts-length}
 use Rattle.figure_numbers.proofs.from_numbers.counts_from.Statement.{statement}
 use Rattle.figure_numbers.proofs.from_numbers.counts_from.Tie as tie
-use Rattle.figure_numbers.proofs.from_numbers.counts_from.Reads as reads
-use Rattle.figure_numbers.proofs.from_numbers.counts_from.Lts as lts
-use Rattle.figure_numbers.proofs.from_numbers.count_in.Reads as count-in-reads
 
 abbrev Inv-loop : tie.InvT-loop
 Inv-loop numbers at counts₀ i₀ counts i = (i ≤ length counts₀) × (length counts ≡ length counts₀) × (counts ≡ paste counts₀ 0 (map countIn (take (length counts₀) (drop at numbers))) i)

@@ -1,15 +1,9 @@
 use mathlib.Core.Path.{_∙_}
+use borrow.Author.Needs.{needs}
 use Rattle.figure_numbers.specs.Numbers.{countIn, sumIn, belowIn}
 use Rattle.figure_numbers.proofs.Placing.{figures-read, told-at}
-use borrow.Author.Needs.{needs}
 use Rattle.figure_numbers.proofs.from_numbers.figures_in.Statement.{statement}
 use Rattle.figure_numbers.proofs.from_numbers.figures_in.Tie as tie
-use Rattle.figure_numbers.proofs.from_numbers.figures_in.Reads as reads
-use Rattle.figure_numbers.proofs.from_numbers.figures_in.Lts as lts
-use Rattle.figure_numbers.proofs.from_numbers.below_in.Reads as below-in-reads
-use Rattle.figure_numbers.proofs.from_numbers.count_in.Reads as count-in-reads
-use Rattle.figure_numbers.proofs.from_numbers.counts_from.Reads as counts-from-reads
-use Rattle.figure_numbers.proofs.from_numbers.sum_in.Reads as sum-in-reads
 
 slice-aggregate-counts-from : tie.Need-slice-aggregate-counts-from
 slice-aggregate-counts-from c = search needs

@@ -1,11 +1,7 @@
-use Rattle.figure_numbers.proofs.Lending.{clears-short, clears-long}
 use borrow.Author.Needs.{needs}
+use Rattle.figure_numbers.proofs.Lending.{clears-short, clears-long}
 use Rattle.figure_numbers.proofs.lent.clear.Statement.{statement}
 use Rattle.figure_numbers.proofs.lent.clear.Tie as tie
-use Rattle.figure_numbers.proofs.lent.clear.Reads as reads
-use Rattle.figure_numbers.proofs.lent.clear.Lts as lts
-use Rattle.figure_numbers.proofs.to_numbers.put_figures.Reads as put-figures-reads
-use Rattle.figures.proofs.Figures.new.Reads as new-reads
 
 returns : tie.Need-returns
 returns c = clears-short (c .before .args .numbers .now) (c .if1 .taken)

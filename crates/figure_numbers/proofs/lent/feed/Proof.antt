@@ -1,15 +1,8 @@
 use borrow.Author.Tests.{not-true, not-false}
-use Rattle.figure_numbers.proofs.Lending.{feeds-short, feeds-refused, feeds-placed, feeds-left}
 use borrow.Author.Needs.{needs}
+use Rattle.figure_numbers.proofs.Lending.{feeds-short, feeds-refused, feeds-placed, feeds-left}
 use Rattle.figure_numbers.proofs.lent.feed.Statement.{statement}
 use Rattle.figure_numbers.proofs.lent.feed.Tie as tie
-use Rattle.figure_numbers.proofs.lent.feed.Reads as reads
-use Rattle.figure_numbers.proofs.lent.feed.Lts as lts
-use Rattle.figure_numbers.proofs.from_numbers.figures_in.Reads as figures-in-reads
-use Rattle.figure_numbers.proofs.to_numbers.put_figures.Reads as put-figures-reads
-use Rattle.figure_numbers.proofs.usable.is_usable.Reads as is-usable-reads
-use Rattle.figures.proofs.Feeding.number.Reads as number-reads
-use Rattle.figures.proofs.Figures.feed.Reads as feed-reads
 
 returns : tie.Need-returns
 returns c = feeds-short (c .before .before .args .numbers .now) (c .before .before .args .batch .now) (c .if1 .taken)

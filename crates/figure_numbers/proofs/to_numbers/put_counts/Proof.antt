@@ -1,4 +1,4 @@
-use mathlib.Core.Path.{_≡_, refl, _∙_}
+use mathlib.Core.Path.{_≡_, refl}
 use mathlib.Core.List.{map}
 use Prim.Native.Nat.{ℕ, _-_, _≤_}
 use native.Mathlib.Omega.{arith}
@@ -6,11 +6,9 @@ use borrow.Author.Needs.{needs}
 use lib.IntN.{ℤ, pos}
 use lib.ListN.{length, length-map}
 use lib.Seq.{paste, paste-zero}
-use Rattle.figure_numbers.proofs.Placing.{put-next, told-count, kept}
+use Rattle.figure_numbers.proofs.Placing.{put-next, told-count}
 use Rattle.figure_numbers.proofs.to_numbers.put_counts.Statement.{statement}
 use Rattle.figure_numbers.proofs.to_numbers.put_counts.Tie as tie
-use Rattle.figure_numbers.proofs.to_numbers.put_counts.Reads as reads
-use Rattle.figure_numbers.proofs.to_numbers.put_counts.Lts as lts
 
 abbrev Inv-loop : tie.InvT-loop
 Inv-loop counts at out₀ i₀ out i = (i ≤ length counts) × (length out ≡ length out₀) × (out ≡ paste out₀ at (map pos counts) i)

@@ -1,14 +1,9 @@
 use mathlib.Core.Path.{_≡_}
+use borrow.Author.Needs.{needs}
 use lib.ListN.{length}
 use Rattle.figure_numbers.proofs.Placing.{figures-put}
-use borrow.Author.Needs.{needs}
 use Rattle.figure_numbers.proofs.to_numbers.put_figures.Statement.{statement}
 use Rattle.figure_numbers.proofs.to_numbers.put_figures.Tie as tie
-use Rattle.figure_numbers.proofs.to_numbers.put_figures.Reads as reads
-use Rattle.figure_numbers.proofs.to_numbers.put_figures.Lts as lts
-use Rattle.figure_numbers.proofs.to_numbers.put_counts.Reads as put-counts-reads
-use Rattle.figure_numbers.proofs.to_numbers.put_numbers.Reads as put-numbers-reads
-use Rattle.figure_numbers.proofs.to_numbers.totals_of.Reads as totals-of-reads
 
 totals-of-requires : tie.Need-totals-of-requires
 totals-of-requires c κs = search needs

@@ -1,16 +1,13 @@
-use mathlib.Core.Path.{_≡_, refl, _∙_}
-use mathlib.Core.List.{map}
-use Prim.Native.Nat.{ℕ, _-_, _≤_}
+use mathlib.Core.Path.{_≡_, refl}
+use Prim.Native.Nat.{_-_, _≤_}
 use native.Mathlib.Omega.{arith}
 use borrow.Author.Needs.{needs}
-use lib.IntN.{ℤ, pos}
-use lib.ListN.{length, length-map}
+use lib.IntN.{pos}
+use lib.ListN.{length}
 use lib.Seq.{paste, paste-zero}
-use Rattle.figure_numbers.proofs.Placing.{put-next, told-count, kept}
+use Rattle.figure_numbers.proofs.Placing.{put-next, kept}
 use Rattle.figure_numbers.proofs.to_numbers.put_numbers.Statement.{statement}
 use Rattle.figure_numbers.proofs.to_numbers.put_numbers.Tie as tie
-use Rattle.figure_numbers.proofs.to_numbers.put_numbers.Reads as reads
-use Rattle.figure_numbers.proofs.to_numbers.put_numbers.Lts as lts
 
 abbrev Inv-loop : tie.InvT-loop
 Inv-loop numbers at out₀ i₀ out i = (i ≤ length numbers) × (length out ≡ length out₀) × (out ≡ paste out₀ at (numbers) i)

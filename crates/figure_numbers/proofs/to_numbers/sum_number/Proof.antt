@@ -1,9 +1,7 @@
-use Rattle.figure_numbers.proofs.Nearest.{sum-over, sum-within}
 use borrow.Author.Needs.{needs}
+use Rattle.figure_numbers.proofs.Nearest.{sum-over, sum-within}
 use Rattle.figure_numbers.proofs.to_numbers.sum_number.Statement.{statement}
 use Rattle.figure_numbers.proofs.to_numbers.sum_number.Tie as tie
-use Rattle.figure_numbers.proofs.to_numbers.sum_number.Reads as reads
-use Rattle.figure_numbers.proofs.to_numbers.sum_number.Lts as lts
 
 cast-result : tie.Need-cast-result
 cast-result c = search needs

@@ -1,12 +1,8 @@
 use mathlib.Core.Path.{refl}
-use Rattle.figure_numbers.proofs.Placing.{totals-told, kept}
 use borrow.Author.Needs.{needs}
+use Rattle.figure_numbers.proofs.Placing.{totals-told, kept}
 use Rattle.figure_numbers.proofs.to_numbers.totals_of.Statement.{statement}
 use Rattle.figure_numbers.proofs.to_numbers.totals_of.Tie as tie
-use Rattle.figure_numbers.proofs.to_numbers.totals_of.Reads as reads
-use Rattle.figure_numbers.proofs.to_numbers.totals_of.Lts as lts
-use Rattle.figure_numbers.proofs.to_numbers.sum_number.Reads as sum-number-reads
-use Rattle.figures.proofs.Figures.below_zero_sum.Reads as below-zero-sum-reads
 
 below-zero-sum-requires : tie.Need-below-zero-sum-requires
 below-zero-sum-requires c κs = search needs

@@ -11,9 +11,6 @@ use Rattle.figure_numbers.specs.Numbers.{isCount}
 use Rattle.figure_numbers.proofs.Placing.{told-at}
 use Rattle.figure_numbers.proofs.usable.are_counts.Statement.{statement}
 use Rattle.figure_numbers.proofs.usable.are_counts.Tie as tie
-use Rattle.figure_numbers.proofs.usable.are_counts.Reads as reads
-use Rattle.figure_numbers.proofs.usable.are_counts.Lts as lts
-use Rattle.figure_numbers.proofs.usable.is_between.Reads as is-between-reads
 
 abbrev Inv-loop : tie.InvT-loop
 Inv-loop numbers i₀ i = (i ≤ length numbers) × (all isCount (drop i numbers) ≡ all isCount numbers)

@@ -1,8 +1,6 @@
 use Rattle.figure_numbers.proofs.Between.{between-high, between-low}
 use Rattle.figure_numbers.proofs.usable.is_between.Statement.{statement}
 use Rattle.figure_numbers.proofs.usable.is_between.Tie as tie
-use Rattle.figure_numbers.proofs.usable.is_between.Reads as reads
-use Rattle.figure_numbers.proofs.usable.is_between.Lts as lts
 
 returns : tie.Need-returns
 returns c = between-high _ _ _ (c .before .fits .low) (c .before .fits .n) (c .before .fits .high) (c .if1 .taken)

@@ -1,17 +1,13 @@
 use mathlib.Core.Path.{_∙_}
 use borrow.Author.Tests.{not-true, not-false}
+use borrow.Author.Needs.{needs}
 use lib.IntN.{pos, negℤ}
 use Rattle.figures.specs.Figures.{sumLimit}
 use Rattle.figure_numbers.specs.Numbers.{isBetween}
 use Rattle.figure_numbers.proofs.Between.{no-first, no-hours, no-below, no-sum, by-last}
 use Rattle.figure_numbers.proofs.Placing.{told-at}
-use borrow.Author.Needs.{needs}
 use Rattle.figure_numbers.proofs.usable.is_usable.Statement.{statement}
 use Rattle.figure_numbers.proofs.usable.is_usable.Tie as tie
-use Rattle.figure_numbers.proofs.usable.is_usable.Reads as reads
-use Rattle.figure_numbers.proofs.usable.is_usable.Lts as lts
-use Rattle.figure_numbers.proofs.usable.are_counts.Reads as are-counts-reads
-use Rattle.figure_numbers.proofs.usable.is_between.Reads as is-between-reads
 
 sub-are-counts : tie.Need-sub-are-counts
 sub-are-counts c = search needs

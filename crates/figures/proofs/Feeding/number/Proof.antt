@@ -1,9 +1,7 @@
-use Rattle.figures.specs.Feed.{feedTold}
 use borrow.Author.Needs.{needs}
+use Rattle.figures.specs.Feed.{feedTold}
 use Rattle.figures.proofs.Feeding.number.Statement.{statement}
 use Rattle.figures.proofs.Feeding.number.Tie as tie
-use Rattle.figures.proofs.Feeding.number.Reads as reads
-use Rattle.figures.proofs.Feeding.number.Lts as lts
 
 enum-told : tie.Need-enum-told
 enum-told c = search needs

@@ -1,11 +1,9 @@
-use Rattle.figures.specs.Figures.{sumLimit}
 use native.Mathlib.Omega.{arith}
-use Rattle.figures.proofs.Reporting.{turned-fits, sum-of}
 use borrow.Author.Needs.{needs}
+use Rattle.figures.specs.Figures.{sumLimit}
+use Rattle.figures.proofs.Reporting.{turned-fits, sum-of}
 use Rattle.figures.proofs.Figures.below_zero_sum.Statement.{statement}
 use Rattle.figures.proofs.Figures.below_zero_sum.Tie as tie
-use Rattle.figures.proofs.Figures.below_zero_sum.Reads as reads
-use Rattle.figures.proofs.Figures.below_zero_sum.Lts as lts
 
 cast-result : tie.Need-cast-result
 cast-result c = search needs

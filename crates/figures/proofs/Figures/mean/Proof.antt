@@ -2,8 +2,6 @@ use mathlib.Core.Path.{refl}
 use Rattle.figures.specs.Figures.{meanOf}
 use Rattle.figures.proofs.Figures.mean.Statement.{statement}
 use Rattle.figures.proofs.Figures.mean.Tie as tie
-use Rattle.figures.proofs.Figures.mean.Reads as reads
-use Rattle.figures.proofs.Figures.mean.Lts as lts
 
 returns : tie.Need-returns
 unfolding meanOf

@@ -1,10 +1,8 @@
 use native.Mathlib.Omega.{arith}
-use Rattle.figures.proofs.Adding.{added-in, added-out}
 use borrow.Author.Needs.{needs}
+use Rattle.figures.proofs.Adding.{added-in, added-out}
 use Rattle.figures.proofs.amount.add_to.Statement.{statement}
 use Rattle.figures.proofs.amount.add_to.Tie as tie
-use Rattle.figures.proofs.amount.add_to.Reads as reads
-use Rattle.figures.proofs.amount.add_to.Lts as lts
 
 returns : tie.Need-returns
 returns c = added-out _ _ (omega arith)

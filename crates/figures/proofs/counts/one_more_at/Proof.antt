@@ -1,10 +1,7 @@
-use Rattle.figures.proofs.Adding.{raised-by}
 use borrow.Author.Needs.{needs}
+use Rattle.figures.proofs.Adding.{raised-by}
 use Rattle.figures.proofs.counts.one_more_at.Statement.{statement}
 use Rattle.figures.proofs.counts.one_more_at.Tie as tie
-use Rattle.figures.proofs.counts.one_more_at.Reads as reads
-use Rattle.figures.proofs.counts.one_more_at.Lts as lts
-use Rattle.figures.proofs.counts.one_more.Reads as one-more-reads
 
 mul-one-more : tie.Need-mul-one-more
 mul-one-more c = search needs

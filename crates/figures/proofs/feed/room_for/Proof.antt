@@ -1,10 +1,8 @@
 use native.Mathlib.Omega.{arith}
-use Rattle.figures.proofs.Adding.{room-of}
 use borrow.Author.Needs.{needs}
+use Rattle.figures.proofs.Adding.{room-of}
 use Rattle.figures.proofs.feed.room_for.Statement.{statement}
 use Rattle.figures.proofs.feed.room_for.Tie as tie
-use Rattle.figures.proofs.feed.room_for.Reads as reads
-use Rattle.figures.proofs.feed.room_for.Lts as lts
 
 returns : tie.Need-returns
 returns c = room-of _ _ _ (omega arith)

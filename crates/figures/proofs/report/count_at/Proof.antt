@@ -1,9 +1,7 @@
-use Rattle.figures.proofs.Reporting.{past-end}
 use borrow.Author.Needs.{needs}
+use Rattle.figures.proofs.Reporting.{past-end}
 use Rattle.figures.proofs.report.count_at.Statement.{statement}
 use Rattle.figures.proofs.report.count_at.Tie as tie
-use Rattle.figures.proofs.report.count_at.Reads as reads
-use Rattle.figures.proofs.report.count_at.Lts as lts
 
 mul-result : tie.Need-mul-result
 mul-result c = search needs

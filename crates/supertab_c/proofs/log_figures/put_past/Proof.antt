@@ -1,11 +1,8 @@
+use borrow.Author.Needs.{needs}
 use Rattle.supertab_c.proofs.FigureLaws.{past-none, past-left, past-many}
 use Rattle.supertab_c.proofs.ReportLaws.{kept}
-use borrow.Author.Needs.{needs}
 use Rattle.supertab_c.proofs.log_figures.put_past.Statement.{statement}
 use Rattle.supertab_c.proofs.log_figures.put_past.Tie as tie
-use Rattle.supertab_c.proofs.log_figures.put_past.Reads as reads
-use Rattle.supertab_c.proofs.log_figures.put_past.Lts as lts
-use Rattle.supertab_c.proofs.report.counted_as.Reads as counted-as-reads
 
 enum-told : tie.Need-enum-told
 enum-told c = search needs

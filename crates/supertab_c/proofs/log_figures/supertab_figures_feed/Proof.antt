@@ -1,12 +1,7 @@
-use Rattle.supertab_c.proofs.FigureLaws.{feed-short, feed-unusable, feed-told}
 use borrow.Author.Needs.{needs}
+use Rattle.supertab_c.proofs.FigureLaws.{feed-short, feed-unusable, feed-told}
 use Rattle.supertab_c.proofs.log_figures.supertab_figures_feed.Statement.{statement}
 use Rattle.supertab_c.proofs.log_figures.supertab_figures_feed.Tie as tie
-use Rattle.supertab_c.proofs.log_figures.supertab_figures_feed.Reads as reads
-use Rattle.supertab_c.proofs.log_figures.supertab_figures_feed.Lts as lts
-use Rattle.figure_numbers.proofs.lent.feed.Reads as feed-reads
-use Rattle.figures.proofs.Feeding.number.Reads as number-reads
-use Rattle.supertab_c.proofs.log_figures.put_past.Reads as put-past-reads
 
 returns : tie.Need-returns
 returns c = feed-short (c .before .before .args .figures .now) (c .before .before .args .batch .now) (c .before .before .args .refused .now) (c .if1 .taken)

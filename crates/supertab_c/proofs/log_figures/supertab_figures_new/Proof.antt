@@ -1,10 +1,7 @@
-use Rattle.supertab_c.proofs.FigureLaws.{new-done, new-short}
 use borrow.Author.Needs.{needs}
+use Rattle.supertab_c.proofs.FigureLaws.{new-done, new-short}
 use Rattle.supertab_c.proofs.log_figures.supertab_figures_new.Statement.{statement}
 use Rattle.supertab_c.proofs.log_figures.supertab_figures_new.Tie as tie
-use Rattle.supertab_c.proofs.log_figures.supertab_figures_new.Reads as reads
-use Rattle.supertab_c.proofs.log_figures.supertab_figures_new.Lts as lts
-use Rattle.figure_numbers.proofs.lent.clear.Reads as clear-reads
 
 clear-requires : tie.Need-clear-requires
 clear-requires c κs = search needs
