@@ -1,12 +1,11 @@
 -- The bar beside a count. Assumes nothing.
-use mathlib.Core.Path.{_≡_, refl, sym, _∙_}
-use mathlib.Core.Bool.{cond}
+use mathlib.Core.Path.{_≡_}
 use mathlib.Core.List.{List, [], _∷_, _++_}
 use Prim.Native.Nat.{ℕ, suc, max, _+_, _*_, _-_, _/_, _≤_, _<_}
 use native.Mathlib.Omega.{arith}
 use borrow.Author.Tests.{eq-eqb, ne-eqb, lt-ltb, le-ltb}
 use lib.ListN.{length, getD, drop, replicate, drop-of-length-le}
-use Rattle.text.specs.Bytes.{byte, bytes}
+use Rattle.text.specs.Bytes.{bytes}
 use Rattle.text.proofs.Laws.{next}
 use Rattle.summary.specs.Bar.{largestOf, barLength, gapText, barText}
 

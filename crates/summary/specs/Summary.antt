@@ -1,14 +1,29 @@
--- The lines that `supertab --figures` prints (02 (x)): "plain text, one figure a line, names first".
-use Prim.Native.Nat.{ℕ, zero, suc, _+_, _*_, _-_, _/_, _%_}
+-- What a log comes to, and the lines that `supertab --figures` prints of it (02 (x)): "plain text, one figure a line, names first".
+use Prim.Native.Nat.{ℕ, min, _*_, _-_, _/_, _%_}
 use mathlib.Core.Bool.{Bool, cond}
 use mathlib.Core.List.{List, [], _∷_, _++_}
 use lib.Dec.{eqb}
 use lib.ListN.{length, take, drop}
 use Rattle.text.specs.Bytes.{bytes}
 use Rattle.output.specs.Decimal.{decimal}
+use Rattle.record.specs.Layout.{recordLength}
 use Rattle.figures.specs.declared.Figures.{Figures}
+use Rattle.figures.specs.Figures.{recordLimit, recordsOf, figuresOf}
+use Rattle.figures.specs.Feed.{firstRecords}
 use Rattle.summary.specs.Bar.{largestOf, barText}
 use Rattle.summary.specs.declared.lines.Summary.{Summary}
+
+-- the most that a u64 holds
+abbrev pub mostOfU64 : ℕ
+mostOfU64 = 18446744073709551615
+
+-- what the bytes of a log come to: "Only whole records are fed", as far as the limit
+unfoldable pub logSummary : List ℕ → Summary
+logSummary s = record {
+  figures = figuresOf (firstRecords (recordsOf s));
+  past = min (length s / recordLength - recordLimit) mostOfU64;
+  left = length s % recordLength;
+}
 
 -- the columns of a name
 abbrev pub nameLength : ℕ

@@ -10,11 +10,13 @@ use streams::input::read_all;
 use streams::message;
 use streams::standard_output::print;
 use text::buffer::Filled;
+ghost use Prim.Native.Nat.{ℕ, _%_};
 ghost use mathlib.Core.Path.{_≡_};
-ghost use mathlib.Core.List.{[]};
+ghost use mathlib.Core.Bool.{true, false};
+ghost use mathlib.Core.List.{List, []};
 ghost use lib.ListN.{length};
-ghost use Rattle.figures.specs.Figures.{figuresOf};
-ghost use Rattle.summary.specs.Contract.{pastSum, Takes, Gathered};
+ghost use Rattle.record.specs.Layout.{recordLength};
+ghost use Rattle.summary.specs.Contract.{pastSum, Gathered, Takes, ReadsOn};
 
 // How far a log has been read.
 struct Reading {
@@ -28,7 +30,7 @@ struct Reading {
 impl Reading {
     // Nothing has been read.
     fn start() -> Reading
-        ensures { λ r. ⌜ (r .summary .figures ≡ figuresOf []) × (r .summary .past ≡ 0) ⌝ }
+        ensures { λ r. ⌜ Gathered [] r ⌝ }
     {
         Reading {
             summary: Summary {
@@ -43,7 +45,7 @@ impl Reading {
 
     // The same after a read that failed.
     fn stopped(self) -> Reading
-        ensures { λ r. ⌜ r .summary ≡ self .summary ⌝ }
+        ensures { λ r. ⌜ (r .summary ≡ self .summary) × (r .going ≡ false) ⌝ }
     {
         let summary = self.summary;
         Reading {
@@ -71,7 +73,7 @@ fn past_sum(past: u64, answer: Feeding) -> u64
 
 // The whole records of a block are fed; what is left behind them is told at the end.
 fn take_block(block: &[u8], going: bool, reading: Reading) -> Reading
-    ensures { λ r. ⌜ Takes (now (block .entry)) reading r ⌝ }
+    ensures { λ r. ⌜ Takes (now (block .entry)) (reading .summary) (r .summary) × (r .going ≡ going) ⌝ }
 {
     let summary = reading.summary;
     let left = block.len() % Record::BYTES;
@@ -93,7 +95,8 @@ fn take_block(block: &[u8], going: bool, reading: Reading) -> Reading
 
 // Reads one block, as much as it holds unless the log ends.
 fn read_block(fd: i32, name: &[u8], block: &mut [u8], reading: Reading) -> Reading
-    ensures { λ r. ⌜ (Gathered reading → Gathered r) ⌝ }
+    requires { ⌜ (length (now block) % recordLength ≡ 0) × (reading .going ≡ true) ⌝ }
+    ensures { λ r. ⌜ ReadsOn (now (block .exit)) reading r ⌝ }
 {
     match read_all(fd, block) {
         Loaded::Failed => {
@@ -106,7 +109,8 @@ fn read_block(fd: i32, name: &[u8], block: &mut [u8], reading: Reading) -> Readi
 
 // Nothing says that the log ends, so the turns are counted down from a number that no run uses up.
 fn read_blocks(fd: i32, name: &[u8], block: &mut [u8]) -> Reading
-    ensures { λ r. ⌜ Gathered r ⌝ }
+    requires { ⌜ length (now block) % recordLength ≡ 0 ⌝ }
+    ensures { λ r. ⌜ ((bytes : List ℕ) × Gathered bytes r) ⌝ }
 {
     let mut reading = Reading::start();
     let mut turns = u64::MAX;

@@ -2,8 +2,6 @@ use Rattle.summary.proofs.BarLaws.{length-none, length-of}
 use borrow.Author.Needs.{needs}
 use Rattle.summary.proofs.bar.bar_length.Statement.{statement}
 use Rattle.summary.proofs.bar.bar_length.Tie as tie
-use Rattle.summary.proofs.bar.bar_length.Reads as reads
-use Rattle.summary.proofs.bar.bar_length.Lts as lts
 
 returns : tie.Need-returns
 returns c = length-none _ _ (c .if1 .taken)

@@ -7,9 +7,6 @@ use Rattle.summary.specs.Bar.{largestOf}
 use Rattle.summary.proofs.BarLaws.{larger-start, larger-next, larger-end}
 use Rattle.summary.proofs.bar.largest.Statement.{statement}
 use Rattle.summary.proofs.bar.largest.Tie as tie
-use Rattle.summary.proofs.bar.largest.Reads as reads
-use Rattle.summary.proofs.bar.largest.Lts as lts
-use Rattle.summary.proofs.bar.larger.Reads as larger-reads
 
 abbrev Inv-loop : tie.InvT-loop
 Inv-loop counts most₀ i₀ most i = (i ≤ length counts) × (max most (largestOf (drop i counts)) ≡ largestOf counts)

@@ -3,11 +3,6 @@ use Rattle.summary.proofs.BarLaws.{no-bar, some-bar}
 use borrow.Author.Needs.{needs}
 use Rattle.summary.proofs.bar.then_bar.Statement.{statement}
 use Rattle.summary.proofs.bar.then_bar.Tie as tie
-use Rattle.summary.proofs.bar.then_bar.Reads as reads
-use Rattle.summary.proofs.bar.then_bar.Lts as lts
-use Rattle.summary.proofs.bar.bar_length.Reads as bar-length-reads
-use Rattle.summary.proofs.bar.then_gap.Reads as then-gap-reads
-use Rattle.summary.proofs.bar.then_marks.Reads as then-marks-reads
 
 bar-length-requires : tie.Need-bar-length-requires
 bar-length-requires c κs = search needs

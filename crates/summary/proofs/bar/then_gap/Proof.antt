@@ -3,9 +3,6 @@ use Rattle.summary.proofs.BarLaws.{gap-1, gap-2, gap-3, gap-4, gap-5, g
 use borrow.Author.Needs.{needs}
 use Rattle.summary.proofs.bar.then_gap.Statement.{statement}
 use Rattle.summary.proofs.bar.then_gap.Tie as tie
-use Rattle.summary.proofs.bar.then_gap.Reads as reads
-use Rattle.summary.proofs.bar.then_gap.Lts as lts
-use Rattle.output.proofs.behind.then_all.Reads as then-all-reads
 
 slice-aggregate-then-all : tie.Need-slice-aggregate-then-all
 slice-aggregate-then-all c = search needs

@@ -10,9 +10,6 @@ use Rattle.output.proofs.BehindLaws.{after-as, after-then, after-none}
 use Rattle.summary.proofs.BarLaws.{marks-start, marks-next, marks-end}
 use Rattle.summary.proofs.bar.then_marks.Statement.{statement}
 use Rattle.summary.proofs.bar.then_marks.Tie as tie
-use Rattle.summary.proofs.bar.then_marks.Reads as reads
-use Rattle.summary.proofs.bar.then_marks.Lts as lts
-use Rattle.output.proofs.behind.then_byte.Reads as then-byte-reads
 
 abbrev Inv-loop : tie.InvT-loop
 Inv-loop marks out₀ last₀ i₀ out last i = (i ≤ marks) × (length out ≡ length out₀) × ((new : List ℕ) (q : Filled) → WroteAfter last out new (replicate (marks - i) 35) q → WroteAfter last₀ out₀ new (replicate marks 35) q)

@@ -3,8 +3,6 @@ use Rattle.summary.proofs.GatherLaws.{past-full, past-more, past-same}
 use borrow.Author.Needs.{needs}
 use Rattle.summary.proofs.gather.past_sum.Statement.{statement}
 use Rattle.summary.proofs.gather.past_sum.Tie as tie
-use Rattle.summary.proofs.gather.past_sum.Reads as reads
-use Rattle.summary.proofs.gather.past_sum.Lts as lts
 
 enum-known-answer : tie.Need-enum-known-answer
 enum-known-answer c = search needs

@@ -4,13 +4,6 @@ use Rattle.text.proofs.Buffers.{wrote-length, wrote-done}
 use borrow.Author.Needs.{needs}
 use Rattle.summary.proofs.gather.print_summary.Statement.{statement}
 use Rattle.summary.proofs.gather.print_summary.Tie as tie
-use Rattle.summary.proofs.gather.print_summary.Reads as reads
-use Rattle.summary.proofs.gather.print_summary.Lts as lts
-use Rattle.libc.proofs.isatty.Reads as isatty-reads
-use Rattle.streams.proofs.message.tell.Reads as tell-reads
-use Rattle.streams.proofs.standard_output.print.Reads as print-reads
-use Rattle.summary.proofs.gather.lines_buffer.Reads as lines-buffer-reads
-use Rattle.summary.proofs.lines.put_summary.Reads as put-summary-reads
 
 lines-buffer-requires : tie.Need-lines-buffer-requires
 lines-buffer-requires c κs = search needs

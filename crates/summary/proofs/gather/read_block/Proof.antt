@@ -1,14 +1,9 @@
+use native.Mathlib.Omega.{arith}
 use Rattle.streams.proofs.InputLaws.{loaded-bytes}
-use Rattle.summary.proofs.GatherLaws.{gathered-same, gathered-on}
+use Rattle.summary.proofs.GatherLaws.{gathered-failed, gathered-on}
 use borrow.Author.Needs.{needs}
 use Rattle.summary.proofs.gather.read_block.Statement.{statement}
 use Rattle.summary.proofs.gather.read_block.Tie as tie
-use Rattle.summary.proofs.gather.read_block.Reads as reads
-use Rattle.summary.proofs.gather.read_block.Lts as lts
-use Rattle.streams.proofs.input.read_all.Reads as read-all-reads
-use Rattle.streams.proofs.message.failed.Reads as failed-reads
-use Rattle.summary.proofs.gather.Reading.stopped.Reads as stopped-reads
-use Rattle.summary.proofs.gather.take_block.Reads as take-block-reads
 
 read-all-requires : tie.Need-read-all-requires
 read-all-requires c κs = search needs
@@ -41,13 +36,15 @@ same-length : tie.Need-same-length
 same-length c = search needs
 
 returns : tie.Need-returns
-returns c = gathered-same (c .stopped .ensures)
+returns c = gathered-failed _ (c .stopped .ensures .0) (c .stopped .ensures .1)
 
 same-length-2 : tie.Need-same-length-2
 same-length-2 c = search needs
 
 returns-2 : tie.Need-returns-2
-returns-2 c = gathered-on (c .take-block .ensures)
+returns-2 c =
+    let h = c .before .before .before .before .before .before .before .before .before .before .before .before .pre in
+    gathered-on _ _ (omega (arith, h .0)) (h .1) (c .take-block .ensures .0) (c .take-block .ensures .1)
 
 pub read-block-spec : {M : Type 1} → statement M
 read-block-spec =

@@ -1,17 +1,15 @@
 use mathlib.Core.Path.{_≡_, refl}
+use mathlib.Core.List.{List, []}
+use Prim.Native.Nat.{ℕ}
 use borrow.Author.Needs.{needs}
 use lib.ListN.{length}
 use Rattle.summary.specs.Contract.{Gathered}
-use Rattle.summary.proofs.GatherLaws.{gathered-none}
+use Rattle.summary.proofs.GatherLaws.{reads-on}
 use Rattle.summary.proofs.gather.read_blocks.Statement.{statement}
 use Rattle.summary.proofs.gather.read_blocks.Tie as tie
-use Rattle.summary.proofs.gather.read_blocks.Reads as reads
-use Rattle.summary.proofs.gather.read_blocks.Lts as lts
-use Rattle.summary.proofs.gather.Reading.start.Reads as start-reads
-use Rattle.summary.proofs.gather.read_block.Reads as read-block-reads
 
 abbrev Inv-loop : tie.InvT-loop
-Inv-loop fd name block₀ reading₀ turns₀ block reading turns = (length block ≡ length block₀) × Gathered reading
+Inv-loop fd name block₀ reading₀ turns₀ block reading turns = (length block ≡ length block₀) × ((bytes : List ℕ) × Gathered bytes reading)
 
 abbrev μ-loop : tie.MeasureT-loop
 μ-loop fd name block₀ reading₀ turns₀ block reading turns = turns
@@ -20,7 +18,7 @@ start-requires : tie.Need-start-requires Inv-loop μ-loop
 start-requires c κs = search needs
 
 loop-holds : tie.Need-loop-holds Inv-loop μ-loop
-loop-holds c = (refl, gathered-none (c .start .ensures .0))
+loop-holds c = (refl, ([], c .start .ensures))
 
 read-block-requires : tie.Need-read-block-requires Inv-loop μ-loop
 read-block-requires c κs = search needs
@@ -32,7 +30,7 @@ loop-less : tie.Need-loop-less Inv-loop μ-loop
 loop-less c = search needs
 
 loop-again : tie.Need-loop-again Inv-loop μ-loop
-loop-again c = (search needs, c .before .before .read-block .ensures (c .before .before .before .before .before .before .loop .inv .1))
+loop-again c = (search needs, reads-on (c .before .before .read-block .ensures) (c .before .before .before .before .before .before .loop .inv .1))
 
 same-length : tie.Need-same-length Inv-loop μ-loop
 same-length c = search needs

@@ -1,12 +1,10 @@
+use mathlib.Core.Path.{refl}
 use native.Mathlib.Omega.{arith}
 use Rattle.io.proofs.Counting.{front}
+use Rattle.summary.proofs.GatherLaws.{summary-on}
 use borrow.Author.Needs.{needs}
 use Rattle.summary.proofs.gather.take_block.Statement.{statement}
 use Rattle.summary.proofs.gather.take_block.Tie as tie
-use Rattle.summary.proofs.gather.take_block.Reads as reads
-use Rattle.summary.proofs.gather.take_block.Lts as lts
-use Rattle.figures.proofs.Figures.feed.Reads as feed-reads
-use Rattle.summary.proofs.gather.past_sum.Reads as past-sum-reads
 
 sub-whole : tie.Need-sub-whole
 sub-whole c = search needs
@@ -21,7 +19,7 @@ past-sum-requires : tie.Need-past-sum-requires
 past-sum-requires c κs = search needs
 
 returns : tie.Need-returns
-returns c = search needs
+returns c = (λ bytes w e. rw (c .past-sum .ensures) (summary-on bytes _ w e (c .before .before .feed .ensures)), refl)
 
 pub take-block-spec : {M : Type 1} → statement M
 take-block-spec =

@@ -2,9 +2,6 @@ use Rattle.summary.proofs.LineLaws.{shown-largest, shown-none}
 use borrow.Author.Needs.{needs}
 use Rattle.summary.proofs.lines.largest_shown.Statement.{statement}
 use Rattle.summary.proofs.lines.largest_shown.Tie as tie
-use Rattle.summary.proofs.lines.largest_shown.Reads as reads
-use Rattle.summary.proofs.lines.largest_shown.Lts as lts
-use Rattle.summary.proofs.bar.largest.Reads as largest-reads
 
 largest-requires : tie.Need-largest-requires
 largest-requires c κs = search needs

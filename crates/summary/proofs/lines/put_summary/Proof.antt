@@ -2,14 +2,6 @@ use Rattle.summary.specs.Summary.{summaryText}
 use borrow.Author.Needs.{needs}
 use Rattle.summary.proofs.lines.put_summary.Statement.{statement}
 use Rattle.summary.proofs.lines.put_summary.Tie as tie
-use Rattle.summary.proofs.lines.put_summary.Reads as reads
-use Rattle.summary.proofs.lines.put_summary.Lts as lts
-use Rattle.summary.proofs.lines.then_ages.Reads as then-ages-reads
-use Rattle.summary.proofs.lines.then_answers.Reads as then-answers-reads
-use Rattle.summary.proofs.lines.then_days.Reads as then-days-reads
-use Rattle.summary.proofs.lines.then_hours.Reads as then-hours-reads
-use Rattle.summary.proofs.lines.then_records.Reads as then-records-reads
-use Rattle.text.proofs.buffer.put_all.Reads as put-all-reads
 
 slice-aggregate-put-all : tie.Need-slice-aggregate-put-all
 slice-aggregate-put-all c = search needs

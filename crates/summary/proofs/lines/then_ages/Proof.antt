@@ -3,11 +3,6 @@ use Rattle.output.proofs.BehindLaws.{after-then}
 use borrow.Author.Needs.{needs}
 use Rattle.summary.proofs.lines.then_ages.Statement.{statement}
 use Rattle.summary.proofs.lines.then_ages.Tie as tie
-use Rattle.summary.proofs.lines.then_ages.Reads as reads
-use Rattle.summary.proofs.lines.then_ages.Lts as lts
-use Rattle.summary.proofs.lines.then_below.Reads as then-below-reads
-use Rattle.summary.proofs.lines.then_mean.Reads as then-mean-reads
-use Rattle.summary.proofs.lines.then_row.Reads as then-row-reads
 
 then-below-requires : tie.Need-then-below-requires
 then-below-requires c κs = search needs

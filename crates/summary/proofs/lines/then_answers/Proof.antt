@@ -6,9 +6,6 @@ use Rattle.output.proofs.BehindLaws.{after-then}
 use borrow.Author.Needs.{needs}
 use Rattle.summary.proofs.lines.then_answers.Statement.{statement}
 use Rattle.summary.proofs.lines.then_answers.Tie as tie
-use Rattle.summary.proofs.lines.then_answers.Reads as reads
-use Rattle.summary.proofs.lines.then_answers.Lts as lts
-use Rattle.summary.proofs.lines.then_counts.Reads as then-counts-reads
 
 slice-aggregate-then-counts : tie.Need-slice-aggregate-then-counts
 slice-aggregate-then-counts c = search needs

@@ -3,9 +3,6 @@ use Rattle.summary.proofs.LineLaws.{below-none, below-some}
 use borrow.Author.Needs.{needs}
 use Rattle.summary.proofs.lines.then_below.Statement.{statement}
 use Rattle.summary.proofs.lines.then_below.Tie as tie
-use Rattle.summary.proofs.lines.then_below.Reads as reads
-use Rattle.summary.proofs.lines.then_below.Lts as lts
-use Rattle.summary.proofs.lines.then_row.Reads as then-row-reads
 
 slice-aggregate-then-row : tie.Need-slice-aggregate-then-row
 slice-aggregate-then-row c = search needs

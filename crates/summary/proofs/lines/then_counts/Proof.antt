@@ -11,11 +11,6 @@ use Rattle.output.proofs.BehindLaws.{after-as, after-then, after-none}
 use Rattle.summary.proofs.LineLaws.{counts-next, counts-end}
 use Rattle.summary.proofs.lines.then_counts.Statement.{statement}
 use Rattle.summary.proofs.lines.then_counts.Tie as tie
-use Rattle.summary.proofs.lines.then_counts.Reads as reads
-use Rattle.summary.proofs.lines.then_counts.Lts as lts
-use Rattle.output.proofs.behind.then_all.Reads as then-all-reads
-use Rattle.output.proofs.behind.then_decimal.Reads as then-decimal-reads
-use Rattle.summary.proofs.bar.then_bar.Reads as then-bar-reads
 
 abbrev Inv-loop : tie.InvT-loop
 Inv-loop names counts most out₀ last₀ i₀ t14 out last i = (i ≤ length counts) × (length out ≡ length out₀) × ((new : List ℕ) (q : Filled) → WroteAfter last out new (countsText (drop (i * 20) names) (drop i counts) most) q → WroteAfter last₀ out₀ new (countsText names counts most) q)

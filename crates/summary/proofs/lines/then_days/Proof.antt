@@ -7,10 +7,6 @@ use Rattle.output.proofs.BehindLaws.{after-as}
 use borrow.Author.Needs.{needs}
 use Rattle.summary.proofs.lines.then_days.Statement.{statement}
 use Rattle.summary.proofs.lines.then_days.Tie as tie
-use Rattle.summary.proofs.lines.then_days.Reads as reads
-use Rattle.summary.proofs.lines.then_days.Lts as lts
-use Rattle.summary.proofs.lines.largest_shown.Reads as largest-shown-reads
-use Rattle.summary.proofs.lines.then_counts.Reads as then-counts-reads
 
 slice-aggregate-largest-shown : tie.Need-slice-aggregate-largest-shown
 slice-aggregate-largest-shown c = search needs

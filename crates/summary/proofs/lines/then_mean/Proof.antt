@@ -3,10 +3,6 @@ use Rattle.summary.proofs.LineLaws.{mean-none, mean-of, tenth-fits}
 use borrow.Author.Needs.{needs}
 use Rattle.summary.proofs.lines.then_mean.Statement.{statement}
 use Rattle.summary.proofs.lines.then_mean.Tie as tie
-use Rattle.summary.proofs.lines.then_mean.Reads as reads
-use Rattle.summary.proofs.lines.then_mean.Lts as lts
-use Rattle.output.proofs.behind.then_all.Reads as then-all-reads
-use Rattle.output.proofs.behind.then_decimal.Reads as then-decimal-reads
 
 slice-aggregate-then-all : tie.Need-slice-aggregate-then-all
 slice-aggregate-then-all c = search needs

@@ -3,9 +3,6 @@ use Rattle.output.proofs.BehindLaws.{after-then}
 use borrow.Author.Needs.{needs}
 use Rattle.summary.proofs.lines.then_records.Statement.{statement}
 use Rattle.summary.proofs.lines.then_records.Tie as tie
-use Rattle.summary.proofs.lines.then_records.Reads as reads
-use Rattle.summary.proofs.lines.then_records.Lts as lts
-use Rattle.summary.proofs.lines.then_row.Reads as then-row-reads
 
 slice-aggregate-then-row : tie.Need-slice-aggregate-then-row
 slice-aggregate-then-row c = search needs

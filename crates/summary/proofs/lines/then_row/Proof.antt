@@ -3,10 +3,6 @@ use Rattle.output.proofs.BehindLaws.{after-then}
 use borrow.Author.Needs.{needs}
 use Rattle.summary.proofs.lines.then_row.Statement.{statement}
 use Rattle.summary.proofs.lines.then_row.Tie as tie
-use Rattle.summary.proofs.lines.then_row.Reads as reads
-use Rattle.summary.proofs.lines.then_row.Lts as lts
-use Rattle.output.proofs.behind.then_all.Reads as then-all-reads
-use Rattle.output.proofs.behind.then_decimal.Reads as then-decimal-reads
 
 then-all-requires : tie.Need-then-all-requires
 then-all-requires c κs = search needs
