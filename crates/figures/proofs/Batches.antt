@@ -32,7 +32,7 @@ module _ (g : Figures) (s : List ℕ) (n : ℕ) where
   all-end k h = let a : n - k ≡ 0 = omega arith in rw a
 
 -- ---- the records of bytes
-records-length : (k : ℕ) (s : List ℕ) → length (recordsIn k s) ≡ k
+pub records-length : (k : ℕ) (s : List ℕ) → length (recordsIn k s) ≡ k
 unfolding recordsIn
 records-length zero s = refl
 records-length (suc k) s = ap suc (records-length k (drop 8 s))
@@ -70,7 +70,7 @@ module _ (rs : List (List ℕ)) (batch : List ℕ) (h : length rs ≤ recordLimi
   unfolding recordsAfter
   after-not w = rw (ne-eqb (length batch % 8) 0 w)
 
-given-of : (rs : List (List ℕ)) → figuresOf rs .given ≡ length rs
+pub given-of : (rs : List (List ℕ)) → figuresOf rs .given ≡ length rs
 unfolding figuresOf
 given-of rs = refl
 

@@ -2,7 +2,7 @@
 use mathlib.Core.Path.{_≡_, refl, sym, ap, _∙_}
 use mathlib.Core.Bool.{Bool, true, false}
 use mathlib.Core.List.{List, [], _∷_, _++_, append-nil}
-use Prim.Native.Nat.{ℕ, zero, suc, min, _+_, _-_, _/_, _%_, _≤_, _<_}
+use Prim.Native.Nat.{ℕ, min, _+_, _-_, _/_, _%_, _≤_, _<_}
 use native.Mathlib.Decide.{decLe}
 use native.Mathlib.Omega.{arith}
 use borrow.Author.Tests.{eq-eqb, eqb-true, le-leb, lt-leb}
@@ -18,7 +18,7 @@ use Rattle.figures.specs.Figures.{recordLimit, recordsIn, recordsOf, figuresOf}
 use Rattle.figures.specs.Feed.{feedAnswer, firstRecords}
 use Rattle.figures.specs.Contract.{Feeds}
 use Rattle.figures.proofs.Feeding.{the-type}
-use Rattle.figures.proofs.Batches.{whole-after}
+use Rattle.figures.proofs.Batches.{records-length, whole-after, given-of}
 use Rattle.figures.proofs.Dividing.{no-records, records-append, first-most, first-all, first-limit}
 use Rattle.summary.specs.declared.gather.Reading.{Reading}
 use Rattle.summary.specs.declared.lines.Summary.{Summary}
@@ -70,11 +70,6 @@ module _ (records n : ℕ) (w : n % 8 ≡ 0) where
   past-on = elim (decLe (n / 8) (recordLimit - min recordLimit records)) [ yes h ↦ answer-all h | no h ↦ answer-past (omega arith) ]
 
 -- ---- the records of a list of bytes
-records-length : (k : ℕ) (s : List ℕ) → length (recordsIn k s) ≡ k
-unfolding recordsIn
-records-length zero s = refl
-records-length (suc k) s = ap suc (records-length k (drop 8 s))
-
 first-length : (s : List ℕ) → length (firstRecords (recordsOf s)) ≡ min recordLimit (length s / 8)
 unfolding firstRecords recordsOf
 first-length s = go recordLimit (length s / 8)
@@ -100,10 +95,6 @@ part-records s =
     let p = part-length s in
     sym (append-nil (recordsOf (take k s))) ∙ ap (λ r. recordsOf (take k s) ++ r) (sym (too-short (drop k s) l))
     ∙ sym (records-append (take k s) (drop k s) (omega arith)) ∙ ap recordsOf (take-append-drop k s)
-
-given-of : (rs : List (List ℕ)) → figuresOf rs .given ≡ length rs
-unfolding figuresOf
-given-of rs = refl
 
 -- ---- blocks
 module _ (s : List ℕ) where
