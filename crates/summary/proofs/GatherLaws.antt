@@ -8,8 +8,6 @@ use native.Mathlib.Omega.{arith}
 use borrow.Author.Tests.{eq-eqb, eqb-true, le-leb, lt-leb}
 use lib.Dec.{eqb}
 use lib.ListN.{length, length-append, length-take, length-drop, take, drop, take-append-drop}
-use denote.Enum.Declared.{tagOf}
-use types.Run.{OneOf, miss}
 use Rattle.figures.specs.declared.Fed.{Fed}
 use Rattle.figures.specs.declared.Figures.{Figures}
 use Rattle.figures.specs.declared.Feeding.{Feeding}
@@ -20,10 +18,12 @@ use Rattle.figures.specs.Contract.{Feeds}
 use Rattle.figures.proofs.Feeding.{the-type}
 use Rattle.figures.proofs.Batches.{records-length, whole-after, given-of}
 use Rattle.figures.proofs.Dividing.{no-records, records-append, first-most, first-all, first-limit}
-use Rattle.summary.specs.declared.gather.Reading.{Reading}
+use Rattle.summary.specs.declared.gather.Gathering.{Gathering}
 use Rattle.summary.specs.declared.lines.Summary.{Summary}
 use Rattle.summary.specs.Summary.{mostOfU64, logSummary}
 use Rattle.summary.specs.Contract.{pastSum, Gathered, Takes, ReadsOn}
+use denote.Enum.Declared.{tagOf}
+use types.Run.{OneOf, miss}
 
 -- ---- records past the limit
 module _ (past n : ℕ) {a : Feeding} (e : a ≡ PastLimit n) where
@@ -46,15 +46,8 @@ stops-once : (most past more : ℕ) {sum : ℕ} → past + more ≡ sum → min 
 stops-once most past more e = omega arith
 
 -- how many lie past the limit, of so many records and more
-module _ (limit most records more : ℕ) where
-  sum-from : records ≤ limit → min (min (records - limit) most + (more - (limit - min limit records))) most ≡ min (records + more - limit) most
-  sum-from h = let a : min limit records ≡ records = omega arith in stops-once most (records - limit) (more - (limit - min limit records)) (rw a (omega arith))
-
-  sum-past : limit < records → min (min (records - limit) most + (more - (limit - min limit records))) most ≡ min (records + more - limit) most
-  sum-past h = let a : min limit records ≡ limit = omega arith in stops-once most (records - limit) (more - (limit - min limit records)) (rw a (omega arith))
-
-  past-limit : min (min (records - limit) most + (more - (limit - min limit records))) most ≡ min (records + more - limit) most
-  past-limit = elim (decLe records limit) [ yes h ↦ sum-from h | no h ↦ sum-past (omega arith) ]
+past-limit : (limit most records more : ℕ) → min (min (records - limit) most + (more - (limit - min limit records))) most ≡ min (records + more - limit) most
+past-limit limit most records more = stops-once most (records - limit) (more - (limit - min limit records)) (omega arith)
 
 -- a whole batch of n bytes behind so many records
 module _ (records n : ℕ) (w : n % 8 ≡ 0) where
@@ -138,19 +131,19 @@ module _ (bytes block : List ℕ) (w : length bytes % 8 ≡ 0) {before : Summary
   summary-on = log-summary (bytes ++ block) figures-on past-log left-log
 
 -- ---- readings
-pub gathered-none : {r : Reading} → r .summary .figures ≡ figuresOf [] → r .summary .past ≡ 0 → r .summary .left ≡ 0 → Gathered [] r
+pub gathered-none : {r : Gathering} → r .summary .figures ≡ figuresOf [] → r .summary .past ≡ 0 → r .summary .left ≡ 0 → Gathered [] r
 gathered-none a b c = record {
   summary = log-summary [] (a ∙ ap figuresOf (sym (ap firstRecords no-records ∙ first-all [] (omega arith)))) (b ∙ omega arith) (c ∙ omega arith);
   whole = λ e. refl;
 }
 
-pub gathered-failed : (block : List ℕ) {before after : Reading} → after .summary ≡ before .summary → after .going ≡ false → ReadsOn block before after
+pub gathered-failed : (block : List ℕ) {before after : Gathering} → after .summary ≡ before .summary → after .going ≡ false → ReadsOn block before after
 gathered-failed block e f = record {
   number = 0;
   gathered = λ bytes g. record { summary = e ∙ g .summary ∙ ap logSummary (sym (append-nil bytes)); whole = λ t. let z : _≡_ {A = Bool} false true = sym f ∙ t in cc };
 }
 
-pub gathered-on : (block : List ℕ) (n : ℕ) {before after : Reading} → length block % 8 ≡ 0 → before .going ≡ true
+pub gathered-on : (block : List ℕ) (n : ℕ) {before after : Gathering} → length block % 8 ≡ 0 → before .going ≡ true
     → Takes (take (n - 0) block) (before .summary) (after .summary) → after .going ≡ eqb n (length block) → ReadsOn block before after
 gathered-on block n w going t e = record {
   number = n - 0;
@@ -160,5 +153,5 @@ gathered-on block n w going t e = record {
   };
 }
 
-pub reads-on : {block : List ℕ} {before after : Reading} → ReadsOn block before after → ((bytes : List ℕ) × Gathered bytes before) → ((bytes : List ℕ) × Gathered bytes after)
+pub reads-on : {block : List ℕ} {before after : Gathering} → ReadsOn block before after → ((bytes : List ℕ) × Gathered bytes before) → ((bytes : List ℕ) × Gathered bytes after)
 reads-on {block} r g = (g .0 ++ take (r .number) block, r .gathered (g .0) (g .1))

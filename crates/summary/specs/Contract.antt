@@ -7,7 +7,7 @@ use lib.ListN.{length, take}
 use Rattle.record.specs.Layout.{recordLength}
 use Rattle.figures.specs.declared.Feeding.{Feeding}
 use Rattle.figures.specs.declared.Feeding.the-variants.{Taken, NotWhole, PastLimit}
-use Rattle.summary.specs.declared.gather.Reading.{Reading}
+use Rattle.summary.specs.declared.gather.Gathering.{Gathering}
 use Rattle.summary.specs.declared.lines.Summary.{Summary}
 use Rattle.summary.specs.Summary.{mostOfU64, logSummary}
 
@@ -18,7 +18,7 @@ pastSum past NotWhole = past
 pastSum past (PastLimit n) = min (past + n) mostOfU64
 
 -- these bytes were read of the log; where there is more to read, it begins at a record
-pub record Gathered (bytes : List ℕ) (r : Reading) : Type 0 where
+pub record Gathered (bytes : List ℕ) (r : Gathering) : Type 0 where
   pub summary : r .summary ≡ logSummary bytes
   pub whole : r .going ≡ true → length bytes % recordLength ≡ 0
 
@@ -27,6 +27,6 @@ abbrev pub Takes : List ℕ → (before after : Summary) → Type 0
 Takes block before after = (bytes : List ℕ) → length bytes % recordLength ≡ 0 → before ≡ logSummary bytes → after ≡ logSummary (bytes ++ block)
 
 -- so many bytes at the block's beginning were read behind those before; none where the read failed
-pub record ReadsOn (block : List ℕ) (before after : Reading) : Type 0 where
+pub record ReadsOn (block : List ℕ) (before after : Gathering) : Type 0 where
   pub number : ℕ
   pub gathered : (bytes : List ℕ) → Gathered bytes before → Gathered (bytes ++ take number block) after

@@ -19,7 +19,7 @@ ghost use Rattle.record.specs.Layout.{recordLength};
 ghost use Rattle.summary.specs.Contract.{pastSum, Gathered, Takes, ReadsOn};
 
 // How far a log has been read.
-struct Reading {
+struct Gathering {
     summary: Summary,
     // Whether there is more to read.
     going: bool,
@@ -27,12 +27,12 @@ struct Reading {
     failed: bool,
 }
 
-impl Reading {
+impl Gathering {
     // Nothing has been read.
-    fn start() -> Reading
+    fn start() -> Gathering
         ensures { λ r. ⌜ Gathered [] r ⌝ }
     {
-        Reading {
+        Gathering {
             summary: Summary {
                 figures: Figures::new(),
                 past: 0,
@@ -44,11 +44,11 @@ impl Reading {
     }
 
     // The same after a read that failed.
-    fn stopped(self) -> Reading
+    fn stopped(self) -> Gathering
         ensures { λ r. ⌜ (r .summary ≡ self .summary) × (r .going ≡ false) ⌝ }
     {
         let summary = self.summary;
-        Reading {
+        Gathering {
             summary,
             going: false,
             failed: true,
@@ -72,7 +72,7 @@ fn past_sum(past: u64, answer: Feeding) -> u64
 }
 
 // The whole records of a block are fed; what is left behind them is told at the end.
-fn take_block(block: &[u8], going: bool, reading: Reading) -> Reading
+fn take_block(block: &[u8], going: bool, reading: Gathering) -> Gathering
     ensures { λ r. ⌜ Takes (now (block .entry)) (reading .summary) (r .summary) × (r .going ≡ going) ⌝ }
 {
     let summary = reading.summary;
@@ -82,7 +82,7 @@ fn take_block(block: &[u8], going: bool, reading: Reading) -> Reading
     let fed = before.feed(&block[..whole]);
     let figures = fed.figures;
     let answer = fed.answer;
-    Reading {
+    Gathering {
         summary: Summary {
             figures,
             past: past_sum(summary.past, answer),
@@ -94,7 +94,7 @@ fn take_block(block: &[u8], going: bool, reading: Reading) -> Reading
 }
 
 // Reads one block, as much as it holds unless the log ends.
-fn read_block(fd: i32, name: &[u8], block: &mut [u8], reading: Reading) -> Reading
+fn read_block(fd: i32, name: &[u8], block: &mut [u8], reading: Gathering) -> Gathering
     requires { ⌜ (length (now block) % recordLength ≡ 0) × (reading .going ≡ true) ⌝ }
     ensures { λ r. ⌜ ReadsOn (now (block .exit)) reading r ⌝ }
 {
@@ -108,11 +108,11 @@ fn read_block(fd: i32, name: &[u8], block: &mut [u8], reading: Reading) -> Readi
 }
 
 // Nothing says that the log ends, so the turns are counted down from a number that no run uses up.
-fn read_blocks(fd: i32, name: &[u8], block: &mut [u8]) -> Reading
+fn read_blocks(fd: i32, name: &[u8], block: &mut [u8]) -> Gathering
     requires { ⌜ length (now block) % recordLength ≡ 0 ⌝ }
     ensures { λ r. ⌜ ((bytes : List ℕ) × Gathered bytes r) ⌝ }
 {
-    let mut reading = Reading::start();
+    let mut reading = Gathering::start();
     let mut turns = u64::MAX;
     while turns > 0 && reading.going {
         reading = read_block(fd, name, block, reading);

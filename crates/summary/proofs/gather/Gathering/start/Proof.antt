@@ -1,7 +1,7 @@
 use borrow.Author.Needs.{needs}
 use Rattle.summary.proofs.GatherLaws.{gathered-none}
-use Rattle.summary.proofs.gather.Reading.start.Statement.{statement}
-use Rattle.summary.proofs.gather.Reading.start.Tie as tie
+use Rattle.summary.proofs.gather.Gathering.start.Statement.{statement}
+use Rattle.summary.proofs.gather.Gathering.start.Tie as tie
 
 new-requires : tie.Need-new-requires
 new-requires c κs = search needs
