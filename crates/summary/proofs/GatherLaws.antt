@@ -140,6 +140,7 @@ gathered-none a b c = record {
 pub gathered-failed : (block : List ℕ) {before after : Gathering} → after .summary ≡ before .summary → after .going ≡ false → ReadsOn block before after
 gathered-failed block e f = record {
   number = 0;
+  full = λ t. let z : _≡_ {A = Bool} false true = sym f ∙ t in cc;
   gathered = λ bytes g. record { summary = e ∙ g .summary ∙ ap logSummary (sym (append-nil bytes)); whole = λ t. let z : _≡_ {A = Bool} false true = sym f ∙ t in cc };
 }
 
@@ -147,6 +148,7 @@ pub gathered-on : (block : List ℕ) (n : ℕ) {before after : Gathering} → le
     → Takes (take (n - 0) block) (before .summary) (after .summary) → after .going ≡ eqb n (length block) → ReadsOn block before after
 gathered-on block n w going t e = record {
   number = n - 0;
+  full = λ h. let a = eqb-true n (length block) (sym e ∙ h) in omega arith;
   gathered = λ bytes g. record {
     summary = t bytes (g .whole going) (g .summary);
     whole = λ h. let a = eqb-true n (length block) (sym e ∙ h) in let b = g .whole going in rw (length-append bytes (take (n - 0) block), length-take (n - 0) block) (omega arith);

@@ -26,7 +26,8 @@ pub record Gathered (bytes : List ℕ) (r : Gathering) : Type 0 where
 abbrev pub Takes : List ℕ → (before after : Summary) → Type 0
 Takes block before after = (bytes : List ℕ) → length bytes % recordLength ≡ 0 → before ≡ logSummary bytes → after ≡ logSummary (bytes ++ block)
 
--- so many bytes at the block's beginning were read behind those before; none where the read failed
+-- so many bytes at the block's beginning were read behind those before, none where the read failed; there is more to read only behind a full block
 pub record ReadsOn (block : List ℕ) (before after : Gathering) : Type 0 where
   pub number : ℕ
+  pub full : after .going ≡ true → number ≡ length block
   pub gathered : (bytes : List ℕ) → Gathered bytes before → Gathered (bytes ++ take number block) after
