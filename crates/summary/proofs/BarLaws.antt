@@ -1,12 +1,16 @@
 -- The bar beside a count. Assumes nothing.
-use mathlib.Core.Path.{_≡_}
+use mathlib.Core.Path.{_≡_, refl, ap, _∙_}
 use mathlib.Core.List.{List, [], _∷_, _++_}
-use Prim.Native.Nat.{ℕ, suc, max, _+_, _*_, _-_, _/_, _≤_, _<_}
+use Prim.Native.Nat.{ℕ, zero, suc, max, _+_, _*_, _-_, _/_, _%_, _≤_, _<_, _^_}
+use native.Mathlib.Decide.{decLe}
+use native.Mathlib.Nat.{pow-suc}
 use native.Mathlib.Omega.{arith}
-use borrow.Author.Tests.{eq-eqb, ne-eqb, lt-ltb, le-ltb}
-use lib.ListN.{length, getD, drop, replicate, drop-of-length-le}
-use Rattle.text.specs.Bytes.{bytes}
+use borrow.Author.Tests.{eq-eqb, ne-eqb}
+use lib.ListN.{length, length-append, getD, drop, replicate, drop-of-length-le}
+use Rattle.text.specs.Bytes.{byte}
 use Rattle.text.proofs.Laws.{next}
+use Rattle.output.specs.Decimal.{digitByte, decimal}
+use Rattle.output.proofs.DecimalLaws.{decimal-one, decimal-more, decimal-digits}
 use Rattle.summary.specs.Bar.{largestOf, barLength, gapText, barText}
 
 -- ---- the largest of some counts
@@ -42,36 +46,33 @@ pub marks-start : (n : ℕ) → replicate {A = ℕ} (n - 0) 35 ≡ replicate n 3
 marks-start n = let e : n - 0 ≡ n = omega arith in rw e
 
 -- ---- the blanks in front
-module _ (n : ℕ) where
-  pub gap-1 : n < 10 → gapText n ≡ bytes "       "
-  unfolding gapText
-  gap-1 h = rw (lt-ltb n 10 h)
+-- a number that is not below the power of ten has more digits
+some-digit : (n : ℕ) → 1 ≤ length (decimal n)
+some-digit n = elim (decLe 10 n) [ yes h ↦ rw (decimal-more n h, length-append (decimal (n / 10)) (digitByte (n % 10) ∷ [])) (omega arith) | no h ↦ rw (decimal-one n (omega arith)) (omega arith) ]
 
-  pub gap-2 : 10 ≤ n → n < 100 → gapText n ≡ bytes "      "
-  unfolding gapText
-  gap-2 g h = rw (le-ltb n 10 g, lt-ltb n 100 h)
+some-power : (k : ℕ) → 1 ≤ 10 ^ k
+some-power zero = omega arith
+some-power (suc k) = rw (pow-suc 10 k) (omega (arith, some-power k))
 
-  pub gap-3 : 100 ≤ n → n < 1000 → gapText n ≡ bytes "     "
-  unfolding gapText
-  gap-3 g h = rw (le-ltb n 10 (omega arith), le-ltb n 100 g, lt-ltb n 1000 h)
+decimal-least : (k n : ℕ) → 10 ^ k ≤ n → suc k ≤ length (decimal n)
+decimal-least zero n h = some-digit n
+decimal-least (suc k) n h = more (10 ^ k) (some-power k) (decimal-least k) (rw (← pow-suc 10 k) h)
+  where
+    more : (m : ℕ) → 1 ≤ m → ((i : ℕ) → m ≤ i → suc k ≤ length (decimal i)) → m * 10 ≤ n → suc (suc k) ≤ length (decimal n)
+    more m o p g = let q = p (n / 10) (omega arith) in rw (decimal-more n (omega arith), length-append (decimal (n / 10)) (digitByte (n % 10) ∷ [])) (omega arith)
 
-  pub gap-4 : 1000 ≤ n → n < 10000 → gapText n ≡ bytes "    "
-  unfolding gapText
-  gap-4 g h = rw (le-ltb n 10 (omega arith), le-ltb n 100 (omega arith), le-ltb n 1000 g, lt-ltb n 10000 h)
+gap-by : (n k : ℕ) → length (decimal n) ≡ k → gapText n ≡ replicate (max 1 (8 - k)) (byte " ")
+unfolding gapText
+gap-by n k e = rw e
 
-  pub gap-5 : 10000 ≤ n → n < 100000 → gapText n ≡ bytes "   "
-  unfolding gapText
-  gap-5 g h = rw (le-ltb n 10 (omega arith), le-ltb n 100 (omega arith), le-ltb n 1000 (omega arith), le-ltb n 10000 g, lt-ltb n 100000 h)
+pub gap-first : (n : ℕ) → n < 10 → gapText n ≡ replicate 7 (byte " ")
+gap-first n h = gap-by n 1 (rw (decimal-one n h))
 
-  pub gap-6 : 100000 ≤ n → n < 1000000 → gapText n ≡ bytes "  "
-  unfolding gapText
-  gap-6 g h =
-      rw (le-ltb n 10 (omega arith), le-ltb n 100 (omega arith), le-ltb n 1000 (omega arith), le-ltb n 10000 (omega arith), le-ltb n 100000 g, lt-ltb n 1000000 h)
+pub gap-between : (k n : ℕ) → 10 ^ k ≤ n → n < 10 ^ suc k → gapText n ≡ replicate (max 1 (8 - suc k)) (byte " ")
+gap-between k n g h = gap-by n (suc k) (omega (arith, decimal-least k n g, decimal-digits k n h))
 
-  pub gap-7 : 1000000 ≤ n → gapText n ≡ bytes " "
-  unfolding gapText
-  gap-7 g =
-      rw (le-ltb n 10 (omega arith), le-ltb n 100 (omega arith), le-ltb n 1000 (omega arith), le-ltb n 10000 (omega arith), le-ltb n 100000 (omega arith), le-ltb n 1000000 g)
+pub gap-last : (n : ℕ) → 1000000 ≤ n → gapText n ≡ replicate 1 (byte " ")
+gap-last n g = let l = decimal-least 6 n g in let e : max 1 (8 - length (decimal n)) ≡ 1 = omega arith in gap-by n (length (decimal n)) refl ∙ ap (λ k. replicate k (byte " ")) e
 
 -- ---- a bar
 module _ (n most : ℕ) {r : ℕ} (e : r ≡ barLength n most) where

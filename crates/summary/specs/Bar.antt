@@ -2,9 +2,10 @@
 use Prim.Native.Nat.{ℕ, max, _+_, _*_, _-_, _/_}
 use mathlib.Core.Bool.{cond}
 use mathlib.Core.List.{List, [], _∷_, _++_}
-use lib.Dec.{eqb, ltb}
-use lib.ListN.{replicate}
-use Rattle.text.specs.Bytes.{byte, bytes}
+use lib.Dec.{eqb}
+use lib.ListN.{length, replicate}
+use Rattle.text.specs.Bytes.{byte}
+use Rattle.output.specs.Decimal.{decimal}
 
 -- the largest of some counts, 0 for none
 unfoldable pub largestOf : List ℕ → ℕ
@@ -15,16 +16,9 @@ largestOf (n ∷ l) = max n (largestOf l)
 unfoldable pub barLength : (n most : ℕ) → ℕ
 barLength n most = cond (eqb most 0) 0 ((n * 48 + (most - 1)) / most)
 
--- blanks that fill up a count to eight columns
+-- blanks that fill up a count to eight columns, one at the least
 unfoldable pub gapText : ℕ → List ℕ
-gapText n =
-    cond (ltb n 10) (bytes "       ")
-    (cond (ltb n 100) (bytes "      ")
-    (cond (ltb n 1000) (bytes "     ")
-    (cond (ltb n 10000) (bytes "    ")
-    (cond (ltb n 100000) (bytes "   ")
-    (cond (ltb n 1000000) (bytes "  ")
-    (bytes " "))))))
+gapText n = replicate (max 1 (8 - length (decimal n))) (byte " ")
 
 -- the bar of a count
 unfoldable pub barText : (n most : ℕ) → List ℕ
