@@ -169,6 +169,11 @@ fn other_forms() {
     }
 }
 
+/// Lines with an unknown action or a wrong number of colons, parted at bars.
+const NO_RULES: &str =
+    "x:y:|x:y:deny|x:y:DEN|x:y:DENYY|x:y:PASS|x:y:DENY,NOPASS|x:y:DENY:|x:y:DENY:x|\
+    x:y|x|:|::|x::DENY|:y:DENY|x:DENY|x:y:DENY#|x:y:DENY #";
+
 /// 02: "actions DENY, NOPASS, OWNPASS"; "an unknown action .. or a wrong number of colons refuses
 /// the file at that line".
 #[test]
@@ -176,25 +181,7 @@ fn actions_and_colons() {
     check("root:ann:DENY\n", deny(1));
     check("root:ann:NOPASS\n", no_password(1));
     check("root:ann:OWNPASS\n", own_password(1));
-    for line in [
-        "x:y:",
-        "x:y:deny",
-        "x:y:DEN",
-        "x:y:DENYY",
-        "x:y:PASS",
-        "x:y:DENY,NOPASS",
-        "x:y:DENY:",
-        "x:y:DENY:x",
-        "x:y",
-        "x",
-        ":",
-        "::",
-        "x::DENY",
-        ":y:DENY",
-        "x:DENY",
-        "x:y:DENY#",
-        "x:y:DENY #",
-    ] {
+    for line in NO_RULES.split('|') {
         check_malformed(line);
     }
 }
