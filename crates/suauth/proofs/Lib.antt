@@ -6,3 +6,4 @@ pub mod RuleLaws
 pub mod LineLaws
 pub mod AnswerLaws
 pub mod CutLaws
+pub mod FormLaws
