@@ -1,4 +1,3 @@
-pub mod PartLaws
 pub mod NameLaws
 pub mod IdLaws
 pub mod TrimLaws
