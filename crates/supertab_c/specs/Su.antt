@@ -1,16 +1,15 @@
 -- What the call for C on su files gives: its number, and what the report holds after it (02 (xiv), include/supertab.h).
-use Prim.Native.Nat.{ℕ}
 use mathlib.Core.Bool.{cond}
 use mathlib.Core.List.{List, _∷_}
+use Prim.Native.Nat.{ℕ}
 use lib.Dec.{eqb}
-use lib.IntN.{ℤ}
+use lib.IntN.{ℤ, pos}
 use lib.ListN.{length, drop}
 use Rattle.suauth.specs.declared.Action.{Action}
 use Rattle.suauth.specs.declared.Action.the-variants.{Deny, NoPassword, OwnPassword}
 use Rattle.suauth.specs.Answer.{Told, acts, noRule, refused, toldOf}
 use Rattle.suauth.specs.Meaning.{Asked, answerOf}
 use Rattle.supertab_c.specs.declared.su.SuTold.{SuTold}
-use Rattle.supertab_c.specs.Report.{counted}
 use Rattle.supertab_c.specs.Call.{shortReport}
 
 -- the papers give the actions no numbers. R: "the header names its own: NOPASS 0, OWNPASS 1, no rule 2, DENY 3"
@@ -36,7 +35,7 @@ suCalled n r = record { number = n; report = r }
 
 -- the line or the place stands at the front of the report, whose later numbers stay
 abbrev pub tellsSu : SuTold → List ℤ → SuCall
-tellsSu t r = suCalled (t .number) (counted (t .value) ∷ drop 1 r)
+tellsSu t r = suCalled (t .number) (pos (t .value) ∷ drop 1 r)
 
 -- 255 first, where the report has no number, and then nothing is written; else the answer to the question from the file
 unfoldable pub suCall : (file : List ℕ) → Asked → (report : List ℤ) → SuCall

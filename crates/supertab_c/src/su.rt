@@ -19,15 +19,42 @@ fn told_by(answer: SuAnswer) -> SuTold
     ensures { λ r. ⌜ r ≡ suTold (toldOf answer) ⌝ }
 {
     match answer {
-        SuAnswer::NoPassword(line) => SuTold { number: 0, value: line },
-        SuAnswer::OwnPassword(line) => SuTold { number: 1, value: line },
-        SuAnswer::NoRule => SuTold { number: 2, value: 0 },
-        SuAnswer::Deny(line) => SuTold { number: 3, value: line },
-        SuAnswer::MalformedQuestion => SuTold { number: 10, value: 0 },
-        SuAnswer::LongFile => SuTold { number: 11, value: SuAnswer::FILE },
-        SuAnswer::RefusedByte(place) => SuTold { number: 12, value: place },
-        SuAnswer::CutShort(place) => SuTold { number: 13, value: place },
-        SuAnswer::MalformedLine(place) => SuTold { number: 14, value: place },
+        SuAnswer::NoPassword(line) => SuTold {
+            number: 0,
+            value: line,
+        },
+        SuAnswer::OwnPassword(line) => SuTold {
+            number: 1,
+            value: line,
+        },
+        SuAnswer::NoRule => SuTold {
+            number: 2,
+            value: 0,
+        },
+        SuAnswer::Deny(line) => SuTold {
+            number: 3,
+            value: line,
+        },
+        SuAnswer::MalformedQuestion => SuTold {
+            number: 10,
+            value: 0,
+        },
+        SuAnswer::LongFile => SuTold {
+            number: 11,
+            value: SuAnswer::FILE,
+        },
+        SuAnswer::RefusedByte(place) => SuTold {
+            number: 12,
+            value: place,
+        },
+        SuAnswer::CutShort(place) => SuTold {
+            number: 13,
+            value: place,
+        },
+        SuAnswer::MalformedLine(place) => SuTold {
+            number: 14,
+            value: place,
+        },
     }
 }
 
