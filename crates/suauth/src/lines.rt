@@ -23,8 +23,9 @@ fn with_line(decided: Decided, told: LineTold, number: usize) -> Decided
     match decided {
         Decided::Line(action, line) => Decided::Line(action, line),
         Decided::Nothing => match told {
+            LineTold::Malformed => Decided::Nothing,
+            LineTold::Nothing => Decided::Nothing,
             LineTold::Rule(action) => Decided::Line(action, number),
-            _ => Decided::Nothing,
         },
     }
 }
