@@ -18,7 +18,7 @@ use Rattle.suauth.specs.declared.names.Meant.the-variants.{Malformed, Ap
 use Rattle.suauth.specs.Rule.{Ids, idsIn, actionIn, ruleOf, partsRule, textRule}
 use Rattle.suauth.specs.Meaning.{Question, means, applies}
 use Rattle.suauth.specs.Contract.{idsTold, actionTold, whenApplies, lineTells}
-use Rattle.suauth.proofs.PartLaws.{split-some}
+use Rattle.text.proofs.Splits.{split-some}
 use Rattle.suauth.specs.declared.rule.ActionRead.the-variants.{Malformed as BadAction, Good}
 use Rattle.suauth.specs.declared.rule.LineTold.the-variants.{Malformed as BadLine, Nothing as NoneHere}
 
