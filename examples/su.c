@@ -5,7 +5,7 @@
  * The exit status is 0 for a decision, 1 for a refusal, 2 where the file cannot be read or the use is wrong.
  *
  *     cc -I include examples/su.c target/staticlib/libsupertab_c.a -o su
- *     ./su /etc/suauth root ann wheel
+ *     ./su docs/worked.suauth root ann crew
  */
 #include <stdio.h>
 #include <string.h>

@@ -4,27 +4,7 @@
 use supertab::{su_answer, SuAnswer, SuQuestion, SuRefusal};
 
 /// The example of 001, whose rules are the lines 6, 11, 18 and 19.
-const EXAMPLE: &[u8] = b"# sample /etc/suauth file
-#
-# A couple of privileged usernames may
-# su to root with their own password.
-#
-root:chris,birddog:OWNPASS
-#
-# Anyone else may not su to root unless in
-# group wheel. This is how BSD does things.
-#
-root:ALL EXCEPT GROUP wheel:DENY
-#
-# Perhaps terry and birddog are accounts
-# owned by the same person.
-# Access can be arranged between them
-# with no password.
-#
-terry:birddog:NOPASS
-birddog:terry:NOPASS
-#
-";
+const EXAMPLE: &[u8] = include_bytes!("../../../docs/worked.suauth");
 
 /// A good line of 14 bytes, which the lines under test stand behind.
 const FIRST: &str = "root:ann:DENY\n";
