@@ -330,7 +330,7 @@ enum {
     SUPERTAB_SU_NOPASS = 0,
     /* OWNPASS: the user becomes the target once he or she has given his or her own password. */
     SUPERTAB_SU_OWNPASS = 1,
-    /* No rule applies: the file decides nothing. */
+    /* No rule applies. */
     SUPERTAB_SU_NO_RULE = 2,
     /* DENY: the user does not become the target, and no password is asked for. */
     SUPERTAB_SU_DENY = 3,
@@ -363,13 +363,14 @@ enum {
  *   groups         the groups of the user, at most 32 of the same form: strings one behind the other, each ended by a
  *                  zero byte, so that the last byte is zero; no bytes for no group
  *   report         at least 1 number. The first is written, by every answer but 255: for 0, 1 and 3 the deciding line,
- *                  which is its number, from 1; for 2 0; for a refusal the place, counted in bytes from 0: 10: 0; 11:
+ *                  which is its number, from 1; 0 for 2; for a refusal the place, counted in bytes from 0: 10: 0; 11:
  *                  32,768; 12: the byte; 13 and 14: where the line begins. Later numbers stay.
  *
- * The result is the answer. The first line whose rule applies decides, and yet all lines are read before the answer. Where
- * several answers apply: 255 first, then 10, 11, 12, then the lines in their order, the first malformed one deciding; 13
- * comes last, behind the faults of the whole lines. Only a file without a fault gives a decision. A file that was cut short
- * never gives another rule's answer: where the whole gives a decision, each beginning of it gives that one, 2 or 13.
+ * The result is the answer. The first line whose rule applies decides, and yet all lines are read before the answer.
+ * Where several answers apply: 255 first, then 10, 11, 12, then the lines in their order, the first malformed one
+ * deciding; 13 comes last, behind the faults of the whole lines. Only a file without a fault gives a decision. A file
+ * that was cut short never gives another rule's answer: where the whole gives a decision, each beginning of it gives
+ * that one, 2 or 13.
  */
 uint8_t supertab_su_answer(const uint8_t *file, size_t file_length,
                            const uint8_t *target, size_t target_length,

@@ -25,7 +25,7 @@ pub enum SuAnswer {
     NoPassword { line: usize },
     /// `OWNPASS`: the user becomes the target once his or her own password is given.
     OwnPassword { line: usize },
-    /// No rule applies: the file decides nothing.
+    /// No rule applies.
     NoRule,
     /// `DENY`: the user does not become the target, and no password is asked for.
     Deny { line: usize },

@@ -80,12 +80,12 @@ abbrev pub RefusalWithin : {F : Type 0} → ℕ → Refusal F → Type 0
 RefusalWithin n (faulty c p) = p ≤ n
 RefusalWithin n (cut p) = p ≤ n
 
--- so is the place of a reading that refuses, and of any other reading the rest holds
+-- the place of a reading that refuses is within n, and P holds of what any other gives
 abbrev pub ReadWithin : {F A : Type 0} → ℕ → (A → Type 0) → Reading (Refusal F) A → Type 0
 ReadWithin n P (fault r) = RefusalWithin n r
 ReadWithin n P (value a) = P a
 
--- what every line within n keeps holds of the outcome
+-- what every line of t keeps holds of the outcome over its lines
 module _ {F S D : Type 0} (continues : ℕ → Bool) (step : S → Line → Reading F S) (decision : S → Option D) (t : List ℕ) (P : S → Type 0)
     (keeps : (s s' : S) (l : Line) → LineWithin (length t) l → P s → step s l ≡ value s' → P s') where
   run-within : (ls : List Line) (s : S) → Each (LineWithin (length t)) ls → P s → ReadWithin (length t) P (run step ls s)
