@@ -13,6 +13,7 @@ use Rattle.text.specs.Class.{nameByte, printable, commandByte}
 use Rattle.text.specs.Lists.{null, all, splitAt, onto}
 use Rattle.text.specs.Slice.{same, headIs}
 use Rattle.text.proofs.Laws.{both-no, either-yes}
+use Rattle.text.proofs.Lists.{filled}
 use Rattle.question.specs.declared.WeekMinute.{WeekMinute}
 use Rattle.question.specs.declared.LastAuthentication.{LastAuthentication}
 use Rattle.question.specs.Question.{Question, commandBytes, userBytes, hostBytes, mostGroups, argumentBytes, mostArguments, weekMinutes, stringsOf, goodComponent, goodCommand, goodName, goodArgument, goodStrings, goodQuestion, ifGood, questionOf}
@@ -35,10 +36,6 @@ module _ (p : List ℕ) where
   pub component-rest : (length p ≡ 0 → ⊥) → same p (bytes ".") ≡ false → not (same p (bytes "..")) ≡ goodComponent p
   unfolding goodComponent
   component-rest n t = rw (filled p n, t)
-    where
-      filled : (p : List ℕ) → (length p ≡ 0 → ⊥) → null p ≡ false
-      filled [] n = absurd (n refl)
-      filled (x ∷ p) n = refl
 
 -- "not beginning with `/`" is one of the components' rules
 no-slash : (s : List ℕ) → not (headIs 47 s) && all goodComponent (splitAt 47 s) ≡ all goodComponent (splitAt 47 s)
