@@ -17,6 +17,7 @@ use Rattle.text.proofs.Laws.{part-rest, part-length, both-no}
 use Rattle.text.proofs.Buffers.{wrote-done, wrote-read}
 use Rattle.text.proofs.Lists.{has-at}
 use Rattle.text.proofs.Leads.{split-at, split-last}
+use Rattle.text.proofs.Splits.{split-some}
 use Rattle.text.proofs.Slices.{byte-at, byte-none}
 use Rattle.console.specs.QuestionLine.{lineLimit, groupsIn, goodLine}
 use Rattle.console.specs.Contract.{part}
@@ -44,11 +45,7 @@ module _ (s : List ℕ) (target user : ℕ) (e : target ≡ 0 + lead 32 (drop 0 
       -- a fourth piece stands behind a space at the end of the third
       pub more-pieces : list < length s → none ≡ suAskedFrom (splitAt 32 s)
       unfolding suAskedFrom
-      more-pieces k = rw (two-pieces, split-at 32 s (user + 1) list g k) (go (ltb (list + 1 + lead 32 (drop (list + 1) s)) (length s)) refl)
-        where
-          go : (t : Bool) → ltb (list + 1 + lead 32 (drop (list + 1) s)) (length s) ≡ t → none ≡ suAskedFrom (part s 0 target ∷ part s (target + 1) user ∷ part s (user + 1) list ∷ splitAt 32 (drop (list + 1) s))
-          go true q = rw (split-at 32 s (list + 1) (list + 1 + lead 32 (drop (list + 1) s)) refl (ltb-true _ _ q))
-          go false q = rw (split-last 32 s (list + 1) (list + 1 + lead 32 (drop (list + 1) s)) refl (ltb-false _ _ q))
+      more-pieces k = rw (two-pieces, split-at 32 s (user + 1) list g k, split-some 32 (drop (list + 1) s) .2)
 
       -- the three pieces, with the groups as the scratch has them
       pub three-pieces : length s ≤ list → (groups : List ℕ) → groups ≡ groupsIn (take (length s - (user + 1)) (drop (user + 1) s)) → some (record { target = part s 0 target; user = part s (target + 1) user; groups = groups }) ≡ suAskedFrom (splitAt 32 s)
