@@ -16,7 +16,7 @@ ghost use Rattle.text.specs.Contract.{Wrote};
 ghost use Rattle.fault.specs.Fault.{numberOf};
 ghost use Rattle.output.specs.Contract.{WroteAfter};
 ghost use Rattle.explain.specs.Words.{wordsOf};
-ghost use Rattle.explain.specs.Explained.{refused, position, refusal, refusalAt, explained};
+ghost use Rattle.explain.specs.Explained.{refused, position, refusal, refusalAt, placeIn, explained};
 
 // The number of the line and the column, each behind a colon.
 fn then_position(filled: Filled, table: &[u8], place: usize, out: &mut [u8]) -> Filled
@@ -45,7 +45,7 @@ pub fn then_refusal(filled: Filled, number: u8, words: &[u8], out: &mut [u8]) ->
     then_all(then_all(head, words, out), b"\n", out)
 }
 
-// A refusal with its place.
+// A refusal with its place; one past the table's end is its end.
 pub fn then_refusal_at(
     filled: Filled,
     number: u8,
@@ -54,12 +54,12 @@ pub fn then_refusal_at(
     place: usize,
     out: &mut [u8],
 ) -> Filled
-    requires { ⌜ place ≤ length (now table) ⌝ }
-    ensures { λ r. ⌜ WroteAfter filled (now (out .entry)) (now (out .exit)) (refusalAt (now (table .entry)) place number (now (words .entry))) r ⌝ }
+    ensures { λ r. ⌜ WroteAfter filled (now (out .entry)) (now (out .exit)) (refusalAt (now (table .entry)) (placeIn (now (table .entry)) place) number (now (words .entry))) r ⌝ }
 {
-    let placed = then_position(filled, table, place, out);
+    let at = at_most(place, table.len());
+    let placed = then_position(filled, table, at, out);
     let told = then_refusal(placed, number, words, out);
-    then_rows(told, table, place, out)
+    then_rows(told, table, at, out)
 }
 
 // The refusal of a control line, by its cause.
@@ -91,7 +91,7 @@ pub fn explain(name: &[u8], table: &[u8], answer: Answer, out: &mut [u8]) -> Fil
             12,
             b"a table holds plain ASCII text only, and no carriage return, accented letter or curly quote; remove or replace this byte",
             table,
-            at_most(place, table.len()),
+            place,
             out,
         ),
         Answer::CutShort(place) => then_refusal_at(
@@ -99,7 +99,7 @@ pub fn explain(name: &[u8], table: &[u8], answer: Answer, out: &mut [u8]) -> Fil
             13,
             b"the table ends before this line does; copy the whole table again, or end the line with a newline that is not behind a backslash",
             table,
-            at_most(place, table.len()),
+            place,
             out,
         ),
         Answer::RefusedLine(cause, place) => {

@@ -5,7 +5,6 @@ use output::behind::then_all;
 use suauth::SuAnswer;
 use text::buffer::Filled;
 use text::buffer::put_all;
-use text::number::at_most;
 ghost use Rattle.text.specs.Contract.{Wrote};
 ghost use Rattle.su_console.specs.Explained.{suExplained};
 
@@ -27,7 +26,7 @@ pub fn explain_su(name: &[u8], file: &[u8], answer: SuAnswer, out: &mut [u8]) ->
             12,
             b"a su file holds plain ASCII text only, and no carriage return, accented letter or curly quote; remove or replace this byte",
             file,
-            at_most(place, file.len()),
+            place,
             out,
         ),
         SuAnswer::CutShort(place) => then_refusal_at(
@@ -35,7 +34,7 @@ pub fn explain_su(name: &[u8], file: &[u8], answer: SuAnswer, out: &mut [u8]) ->
             13,
             b"the su file ends before this line does; copy the whole file again, or end the line with a newline",
             file,
-            at_most(place, file.len()),
+            place,
             out,
         ),
         SuAnswer::MalformedLine(place) => then_refusal_at(
@@ -43,7 +42,7 @@ pub fn explain_su(name: &[u8], file: &[u8], answer: SuAnswer, out: &mut [u8]) ->
             14,
             b"the line is not of the form TO:FROM:ACTION; write ALL, names parted by commas or ALL EXCEPT and such names on either side, GROUP before the names only in FROM, and DENY, NOPASS or OWNPASS at the end, with no blanks but single ones beside EXCEPT and behind GROUP",
             file,
-            at_most(place, file.len()),
+            place,
             out,
         ),
         _ => then_all(named, b": ok\n", out),
