@@ -1,9 +1,9 @@
 -- The laws of what is printed: the pieces that the functions put one behind the other are those of the definitions. Assumes nothing.
 use mathlib.Core.Path.{_≡_, refl}
 use mathlib.Core.List.{List, [], _∷_, _++_, map}
-use Prim.Native.Nat.{ℕ, suc, _+_, _-_, min}
+use Prim.Native.Nat.{ℕ, suc, _+_, _-_}
 use native.Mathlib.Omega.{arith}
-use lib.ListN.{length, take, drop}
+use lib.ListN.{take, drop}
 use Rattle.text.specs.Bytes.{bytes}
 use Rattle.text.specs.Contract.{lead, Wrote}
 use Rattle.text.specs.declared.buffer.Filled.{Filled}
@@ -16,7 +16,7 @@ use Rattle.output.specs.Contract.{WroteAfter}
 use Rattle.output.specs.Decimal.{decimal}
 use Rattle.explain.specs.Place.{lineNumber, lineStart, lineEnd, column, physicalLine, lineFront}
 use Rattle.explain.specs.Words.{wordsOf, refusedByteWords, cutShortWords}
-use Rattle.explain.specs.Explained.{shownIn, rows, position, refused, refusal, refusalAt, finding, explained}
+use Rattle.explain.specs.Explained.{shownIn, rows, position, refused, refusal, refusalAt, finding, explained, placeIn}
 use Rattle.explain.specs.declared.row.Row.the-variants.{Line, Caret}
 use types.Run.{OneOf, miss}
 use denote.Enum.Declared.{tagOf}
@@ -38,9 +38,9 @@ pub refusal-is : (n : ℕ) (words : List ℕ) → refusal n words ≡ refused n 
 unfolding refusal
 refusal-is n words = refl
 
-pub refusal-at-is : (t : List ℕ) (p n : ℕ) (words : List ℕ) → refusalAt t p n words ≡ position t p ++ refusal n words ++ rows t p
+pub refusal-at-is : (t : List ℕ) (p n : ℕ) (words : List ℕ) {at : ℕ} → at ≡ placeIn t p → refusalAt t (placeIn t p) n words ≡ position t at ++ refusal n words ++ rows t at
 unfolding refusalAt
-refusal-at-is t p n words = refl
+refusal-at-is t p n words e = rw e
 
 pub fault-at-is : (t : List ℕ) (p n : ℕ) (c : Cause) → n ≡ numberOf c → refusalAt t p (numberOf c) (wordsOf c) ≡ position t p ++ (refused n ++ wordsOf c ++ bytes "\n") ++ rows t p
 unfolding refusalAt refusal
@@ -52,18 +52,18 @@ unfolding explained
 explained-by t a w v e = rw e (v .behind _ _ _ w)
 
 -- what stands there by the answer
-module _ (t : List ℕ) {a : Answer} {p at : ℕ} (h : at ≡ min p (length t)) where
-  pub finding-byte : a ≡ RefusedByte p → finding t a ≡ refusalAt t at 12 refusedByteWords
+module _ (t : List ℕ) {a : Answer} {p : ℕ} where
+  pub finding-byte : a ≡ RefusedByte p → finding t a ≡ refusalAt t (placeIn t p) 12 refusedByteWords
   unfolding finding
-  finding-byte e = rw (e, h)
+  finding-byte e = rw e
 
-  pub finding-cut : a ≡ CutShort p → finding t a ≡ refusalAt t at 13 cutShortWords
+  pub finding-cut : a ≡ CutShort p → finding t a ≡ refusalAt t (placeIn t p) 13 cutShortWords
   unfolding finding
-  finding-cut e = rw (e, h)
+  finding-cut e = rw e
 
-  pub finding-line : {c : Cause} → a ≡ RefusedLine c p → finding t a ≡ refusalAt t at (numberOf c) (wordsOf c)
+  pub finding-line : {c : Cause} {at : ℕ} → at ≡ placeIn t p → a ≡ RefusedLine c p → finding t a ≡ refusalAt t at (numberOf c) (wordsOf c)
   unfolding finding
-  finding-line e = rw (e, h)
+  finding-line h e = rw (e, h)
 
 -- the tags of the decisions
 abbrev pub decisions : List ℕ

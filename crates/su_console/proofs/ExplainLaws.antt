@@ -1,8 +1,7 @@
 -- The laws of what is printed for a file that is checked, by the answer. Assumes nothing.
 use mathlib.Core.Path.{_≡_, refl}
 use mathlib.Core.List.{List, [], _∷_}
-use Prim.Native.Nat.{ℕ, min}
-use lib.ListN.{length}
+use Prim.Native.Nat.{ℕ}
 use Rattle.text.specs.Bytes.{bytes}
 use Rattle.text.specs.Contract.{Wrote}
 use Rattle.text.specs.declared.buffer.Filled.{Filled}
@@ -10,7 +9,7 @@ use Rattle.suauth.specs.declared.SuAnswer.{SuAnswer}
 use Rattle.suauth.specs.declared.SuAnswer.the-variants.{Deny, NoPassword, OwnPassword, NoRule, MalformedQuestion, LongFile, RefusedByte, CutShort, MalformedLine}
 use Rattle.suauth.proofs.SuAnswer.{the-type}
 use Rattle.output.specs.Contract.{WroteAfter}
-use Rattle.explain.specs.Explained.{refusalAt}
+use Rattle.explain.specs.Explained.{refusalAt, placeIn}
 use Rattle.su_console.specs.Words.{suRefusedByteWords, suCutShortWords, malformedLineWords}
 use Rattle.su_console.specs.Explained.{suFinding, suExplained}
 use types.Run.{OneOf, miss}
@@ -22,18 +21,18 @@ unfolding suExplained
 explained-by t a w v e = rw e (v .behind _ _ _ w)
 
 -- what stands there by the answer
-module _ (t : List ℕ) {a : SuAnswer} {p at : ℕ} (h : at ≡ min p (length t)) where
-  pub finding-byte : a ≡ RefusedByte p → suFinding t a ≡ refusalAt t at 12 suRefusedByteWords
+module _ (t : List ℕ) {a : SuAnswer} {p : ℕ} where
+  pub finding-byte : a ≡ RefusedByte p → suFinding t a ≡ refusalAt t (placeIn t p) 12 suRefusedByteWords
   unfolding suFinding
-  finding-byte e = rw (e, h)
+  finding-byte e = rw e
 
-  pub finding-cut : a ≡ CutShort p → suFinding t a ≡ refusalAt t at 13 suCutShortWords
+  pub finding-cut : a ≡ CutShort p → suFinding t a ≡ refusalAt t (placeIn t p) 13 suCutShortWords
   unfolding suFinding
-  finding-cut e = rw (e, h)
+  finding-cut e = rw e
 
-  pub finding-line : a ≡ MalformedLine p → suFinding t a ≡ refusalAt t at 14 malformedLineWords
+  pub finding-line : a ≡ MalformedLine p → suFinding t a ≡ refusalAt t (placeIn t p) 14 malformedLineWords
   unfolding suFinding
-  finding-line e = rw (e, h)
+  finding-line e = rw e
 
 -- the tags of the decisions
 abbrev pub decisions : List ℕ

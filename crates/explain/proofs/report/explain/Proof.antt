@@ -33,9 +33,6 @@ enum-known-answer c = search needs
 slice-aggregate-then-refusal-at : tie.Need-slice-aggregate-then-refusal-at
 slice-aggregate-then-refusal-at c = search needs
 
-at-most-requires : tie.Need-at-most-requires
-at-most-requires c κs = search needs
-
 then-refusal-at-requires : tie.Need-then-refusal-at-requires
 then-refusal-at-requires c κs = search needs
 
@@ -45,17 +42,14 @@ enum-known-answer-2 c = search needs
 slice-aggregate-then-refusal-at-2 : tie.Need-slice-aggregate-then-refusal-at-2
 slice-aggregate-then-refusal-at-2 c = search needs
 
-at-most-requires-2 : tie.Need-at-most-requires-2
-at-most-requires-2 c κs = search needs
-
 then-refusal-at-requires-2 : tie.Need-then-refusal-at-requires-2
 then-refusal-at-requires-2 c κs = search needs
 
 enum-known-answer-3 : tie.Need-enum-known-answer-3
 enum-known-answer-3 c = search needs
 
-at-most-requires-3 : tie.Need-at-most-requires-3
-at-most-requires-3 c κs = search needs
+at-most-requires : tie.Need-at-most-requires
+at-most-requires c κs = search needs
 
 then-fault-at-requires : tie.Need-then-fault-at-requires
 then-fault-at-requires c κs = search needs
@@ -94,20 +88,20 @@ same-length-3 c = search needs
 
 returns-3 : tie.Need-returns-3
 unfolding refusedByteWords
-returns-3 c = explained-by _ _ (c .before .before .before .before .before .before .before .before .before .before .before .put-all .ensures) (c .before .before .then-refusal-at .ensures) (finding-byte _ (c .before .before .before .before .at-most .ensures .0) (c .before .before .before .before .before .before .before .answer .given .1))
+returns-3 c = explained-by _ _ (c .before .before .before .before .before .before .before .before .before .before .put-all .ensures) (c .before .before .then-refusal-at .ensures) (finding-byte _ (c .before .before .before .before .before .before .answer .given .1))
 
 same-length-4 : tie.Need-same-length-4
 same-length-4 c = search needs
 
 returns-4 : tie.Need-returns-4
 unfolding cutShortWords
-returns-4 c = explained-by _ _ (c .before .before .before .before .before .before .before .before .before .before .before .put-all .ensures) (c .before .before .then-refusal-at2 .ensures) (finding-cut _ (c .before .before .before .before .at-most2 .ensures .0) (c .before .before .before .before .before .before .before .answer2 .given .1))
+returns-4 c = explained-by _ _ (c .before .before .before .before .before .before .before .before .before .before .put-all .ensures) (c .before .before .then-refusal-at2 .ensures) (finding-cut _ (c .before .before .before .before .before .before .answer2 .given .1))
 
 same-length-5 : tie.Need-same-length-5
 same-length-5 c = search needs
 
 returns-5 : tie.Need-returns-5
-returns-5 c = explained-by _ _ (c .before .before .before .before .before .before .before .before .before .before .put-all .ensures) (c .before .before .then-fault-at .ensures) (finding-line _ (c .before .before .before .before .at-most3 .ensures .0) (c .before .before .before .before .before .before .answer3 .given .1))
+returns-5 c = explained-by _ _ (c .before .before .before .before .before .before .before .before .before .before .put-all .ensures) (c .before .before .then-fault-at .ensures) (finding-line _ (c .before .before .before .before .at-most .ensures .0) (c .before .before .before .before .before .before .answer3 .given .1))
 
 same-length-6 : tie.Need-same-length-6
 same-length-6 c = search needs
@@ -135,14 +129,12 @@ explain-spec =
     then-refusal-requires
     enum-known-answer
     slice-aggregate-then-refusal-at
-    at-most-requires
     then-refusal-at-requires
     enum-known-answer-2
     slice-aggregate-then-refusal-at-2
-    at-most-requires-2
     then-refusal-at-requires-2
     enum-known-answer-3
-    at-most-requires-3
+    at-most-requires
     then-fault-at-requires
     enum-told-3
     slice-aggregate-then-all-2
