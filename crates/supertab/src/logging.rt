@@ -1,6 +1,7 @@
 // Answers with a log, and what is printed of one.
 use super::arguments::LogView;
-use super::table;
+use checker::file::file_buffer;
+use checker::file::load;
 use libc::STDIN_FILENO;
 use log::file::Log;
 use log::file::open;
@@ -27,8 +28,8 @@ fn answer_logged(table: &[u8], i: usize) {
 // Answers the questions of standard input, with the log and the table that these arguments name. The table is read
 // before the log is opened, so that a wrong table leaves no log behind.
 pub fn answer(i: usize, j: usize) {
-    let mut bytes = table::table_buffer();
-    let Loaded::Bytes(n) = table::load(j, &mut bytes) else {
+    let mut bytes = file_buffer();
+    let Loaded::Bytes(n) = load(j, b"the name of the table", &mut bytes) else {
         return;
     };
     answer_logged(&bytes[..n], i);

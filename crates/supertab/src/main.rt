@@ -1,11 +1,12 @@
 // The program: answers question lines from a table, checks a table, keeps a log, prints one and its figures.
 mod arguments; // what the arguments ask for
-mod check; // what --check prints
 mod logging; // answers with a log, and what is printed of one
-mod table; // the table, from the file that an argument names
 
 use arguments::Request;
 use arguments::requested;
+use checker::check;
+use checker::file::file_buffer;
+use checker::file::load;
 use log::file::Log;
 use responder::lines::answer_lines;
 use streams::input::Loaded;
@@ -14,8 +15,8 @@ use streams::standard_output;
 
 // Answers the questions of standard input.
 fn answer(i: usize) {
-    let mut bytes = table::table_buffer();
-    let Loaded::Bytes(n) = table::load(i, &mut bytes) else {
+    let mut bytes = file_buffer();
+    let Loaded::Bytes(n) = load(i, b"the name of the table", &mut bytes) else {
         return;
     };
     answer_lines(&bytes[..n], Log::none(), b"");

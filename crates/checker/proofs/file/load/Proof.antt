@@ -1,16 +1,13 @@
 use Rattle.streams.proofs.InputLaws.{loaded-bytes}
 use borrow.Author.Needs.{needs}
-use Rattle.supertab.proofs.table.load.Statement.{statement}
-use Rattle.supertab.proofs.table.load.Tie as tie
+use Rattle.checker.proofs.file.load.Statement.{statement}
+use Rattle.checker.proofs.file.load.Tie as tie
 
 buffer-requires : tie.Need-buffer-requires
 buffer-requires c κs = search needs
 
 slice-aggregate-load-name : tie.Need-slice-aggregate-load-name
 slice-aggregate-load-name c = search needs
-
-slice-aggregate-load-name-2 : tie.Need-slice-aggregate-load-name-2
-slice-aggregate-load-name-2 c = search needs
 
 load-name-requires : tie.Need-load-name-requires
 load-name-requires c κs = search needs
@@ -45,7 +42,6 @@ load-spec =
     (tie.spec
     buffer-requires
     slice-aggregate-load-name
-    slice-aggregate-load-name-2
     load-name-requires
     enum-known-n
     enum-told

@@ -1,7 +1,7 @@
 // What --check prints.
-use super::table::load_file;
-use super::table::load_from;
-use super::table::table_buffer;
+use super::file::file_buffer;
+use super::file::load_file;
+use super::file::load_from;
 use answer::Answer;
 use console::respond::answer_line;
 use explain::report::explain;
@@ -55,7 +55,7 @@ fn ask(name: &[u8], table: &[u8], line: &[u8]) {
     }
 }
 
-// The table of this name, `-` for standard input; a failure is told.
+// The file of this name, `-` for standard input; a failure is told.
 fn load_named(name: &[u8], out: &mut [u8]) -> Loaded
     ensures { λ r. ⌜ LoadedIn (now (out .exit)) r ⌝ }
 {
@@ -67,7 +67,7 @@ fn load_named(name: &[u8], out: &mut [u8]) -> Loaded
 
 // Asks the table of this name the question.
 fn ask_named(name: &[u8], line: &[u8]) {
-    let mut table = table_buffer();
+    let mut table = file_buffer();
     let Loaded::Bytes(n) = load_named(name, &mut table) else {
         return;
     };

@@ -2,8 +2,8 @@ use native.Mathlib.Omega.{arith}
 use borrow.Author.Needs.{needs}
 use Rattle.io.proofs.Counting.{front}
 use Rattle.text.proofs.Buffers.{wrote-length, wrote-done}
-use Rattle.supertab.proofs.check.print_report.Statement.{statement}
-use Rattle.supertab.proofs.check.print_report.Tie as tie
+use Rattle.checker.proofs.check.print_report.Statement.{statement}
+use Rattle.checker.proofs.check.print_report.Tie as tie
 
 report-buffer-requires : tie.Need-report-buffer-requires
 report-buffer-requires c κs = search needs
