@@ -1,2 +1,4 @@
+
 pub mod LinesLaws
+pub mod SourceLaws
 pub mod Worked

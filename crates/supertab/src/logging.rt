@@ -7,6 +7,7 @@ use log::file::Log;
 use log::file::open;
 use log::show::show;
 use responder::lines::answer_lines;
+use responder::source::Source;
 use streams::input::Loaded;
 use streams::input::load_name;
 use streams::message;
@@ -17,10 +18,10 @@ use text::slice::equal;
 fn answer_logged(table: &[u8], i: usize) {
     let mut name = io::buffer();
     match load_name(i, b"the name of the log", &mut name) {
-        Loaded::Failed => answer_lines(table, Log::none(), b""),
+        Loaded::Failed => answer_lines(Source::Table, table, Log::none(), b""),
         Loaded::Bytes(n) => {
             let opened = open(&name[..n]);
-            answer_lines(table, opened, &name[..n]);
+            answer_lines(Source::Table, table, opened, &name[..n]);
         }
     }
 }

@@ -9,6 +9,7 @@ use checker::file::file_buffer;
 use checker::file::load;
 use log::file::Log;
 use responder::lines::answer_lines;
+use responder::source::Source;
 use streams::input::Loaded;
 use streams::message;
 use streams::standard_output;
@@ -19,7 +20,7 @@ fn answer(i: usize) {
     let Loaded::Bytes(n) = load(i, b"the name of the table", &mut bytes) else {
         return;
     };
-    answer_lines(&bytes[..n], Log::none(), b"");
+    answer_lines(Source::Table, &bytes[..n], Log::none(), b"");
 }
 
 fn help() {
