@@ -1,7 +1,7 @@
 // Answers with a log, and what is printed of one.
-use super::arguments::LogView;
 use checker::file::file_buffer;
 use checker::file::load;
+use command_line::request::LogView;
 use libc::STDIN_FILENO;
 use log::file::Log;
 use log::file::open;

@@ -1,12 +1,11 @@
 // The program: answers question lines from a table, checks a table, keeps a log, prints one and its figures.
-mod arguments; // what the arguments ask for
 mod logging; // answers with a log, and what is printed of one
 
-use arguments::Request;
-use arguments::requested;
 use checker::check;
 use checker::file::file_buffer;
 use checker::file::load;
+use command_line::request::Request;
+use command_line::request::requested;
 use log::file::Log;
 use responder::lines::answer_lines;
 use responder::source::Source;

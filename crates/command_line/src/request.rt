@@ -1,5 +1,6 @@
-// What the arguments ask for.
-use text::slice::equal;
+// The request that the arguments make.
+use super::word::Word;
+use super::word::word_at;
 
 pub enum Request {
     // To answer questions from the table that this argument names.
@@ -29,77 +30,8 @@ pub enum LogView {
     Figures,
 }
 
-// What an argument is where an option may stand.
-enum Word {
-    Check,
-    Log,
-    ReadLog,
-    Figures,
-    Help,
-    Version,
-    // `--`
-    EndOfOptions,
-    // `-`
-    Dash,
-    OtherOption,
-    Operand,
-    Missing,
-}
-
-// The word of an option, or of an operand, which does not begin with `-`.
-fn word_of(text: &[u8]) -> Word {
-    if text.len() == 0 {
-        return Word::Operand;
-    }
-    if text[0] != b'-' {
-        return Word::Operand;
-    }
-    if equal(text, b"-") {
-        return Word::Dash;
-    }
-    if equal(text, b"--") {
-        return Word::EndOfOptions;
-    }
-    if equal(text, b"--check") {
-        return Word::Check;
-    }
-    if equal(text, b"--log") {
-        return Word::Log;
-    }
-    if equal(text, b"--read-log") {
-        return Word::ReadLog;
-    }
-    if equal(text, b"--figures") {
-        return Word::Figures;
-    }
-    if equal(text, b"--help") {
-        return Word::Help;
-    }
-    if equal(text, b"--version") {
-        return Word::Version;
-    }
-    Word::OtherOption
-}
-
-// Of an argument that is longer than all options only the first byte is looked at.
-fn word_at(i: usize) -> Word {
-    let mut text = [0u8; 16];
-    let n = os::arg(i, &mut text);
-    let error = os::errno();
-    if error == 0 {
-        return word_of(&text[..n]);
-    }
-    if error == libc::EINVAL {
-        return Word::Missing;
-    }
-    if text[0] == b'-' {
-        return Word::OtherOption;
-    }
-    Word::Operand
-}
-
-// The request, where no argument stands behind this one.
-fn last(i: usize, request: Request) -> Request {
+// The request that ends with this argument, or the other one where the argument is missing; none may stand behind it.
+fn last(i: usize, request: Request, missing: Request) -> Request {
     let count = os::arg_count();
     if count > i {
         if count - i > 1 {
@@ -107,7 +39,7 @@ fn last(i: usize, request: Request) -> Request {
         }
         return request;
     }
-    Request::NoTable
+    missing
 }
 
 // A check of the table that this argument names, perhaps with a question behind it.
@@ -138,9 +70,9 @@ fn check_request() -> Request {
 // The table behind the log that this argument names.
 fn log_request(i: usize) -> Request {
     match word_at(3) {
-        Word::EndOfOptions => last(4, Request::AnswerWithLog(i, 4)),
+        Word::EndOfOptions => last(4, Request::AnswerWithLog(i, 4), Request::NoTable),
         Word::Dash => Request::TableFromInput,
-        Word::Operand => last(3, Request::AnswerWithLog(i, 3)),
+        Word::Operand => last(3, Request::AnswerWithLog(i, 3), Request::NoTable),
         Word::Missing => Request::NoTable,
         _ => Request::UnknownOption(3),
     }
@@ -156,20 +88,12 @@ fn with_log() -> Request {
     }
 }
 
-// A log that is read, where an argument is there and none behind it.
-fn read_log_at(view: LogView, i: usize) -> Request {
-    if os::arg_count() > i {
-        return last(i, Request::ReadLog(view, i));
-    }
-    Request::NoLog
-}
-
 // What stands behind --read-log or --figures.
 fn read_log_request(view: LogView) -> Request {
     match word_at(2) {
-        Word::EndOfOptions => read_log_at(view, 3),
-        Word::Dash => read_log_at(view, 2),
-        Word::Operand => read_log_at(view, 2),
+        Word::EndOfOptions => last(3, Request::ReadLog(view, 3), Request::NoLog),
+        Word::Dash => last(2, Request::ReadLog(view, 2), Request::NoLog),
+        Word::Operand => last(2, Request::ReadLog(view, 2), Request::NoLog),
         Word::Missing => Request::NoLog,
         _ => Request::UnknownOption(2),
     }
@@ -181,12 +105,12 @@ pub fn requested() -> Request {
         Word::Log => with_log(),
         Word::ReadLog => read_log_request(LogView::Records),
         Word::Figures => read_log_request(LogView::Figures),
-        Word::Help => last(1, Request::Help),
-        Word::Version => last(1, Request::Version),
-        Word::EndOfOptions => last(2, Request::Answer(2)),
+        Word::Help => last(1, Request::Help, Request::NoTable),
+        Word::Version => last(1, Request::Version, Request::NoTable),
+        Word::EndOfOptions => last(2, Request::Answer(2), Request::NoTable),
         Word::Dash => Request::TableFromInput,
         Word::OtherOption => Request::UnknownOption(1),
-        Word::Operand => last(1, Request::Answer(1)),
+        Word::Operand => last(1, Request::Answer(1), Request::NoTable),
         Word::Missing => Request::NoTable,
     }
 }
