@@ -1,5 +1,5 @@
 //! A reader of rule tables: a table and a question give one answer, a log record keeps it, and
-//! figures are made of many records.
+//! figures are made of many records. Beside it a reader of su files.
 
 pub mod answer;
 pub mod bytes;
@@ -18,6 +18,8 @@ pub mod question;
 pub mod reader;
 pub mod record;
 pub mod record_cases;
+pub mod suauth;
+pub mod suauth_cases;
 pub mod times;
 pub mod users;
 pub mod variables;

@@ -4,13 +4,14 @@ use std::fs::File;
 use std::io::{self, BufRead, BufWriter, ErrorKind, Read, Write};
 use std::process::ExitCode;
 
-use rule_table::{answer, cases, figures_cases, program, record_cases};
+use rule_table::{answer, cases, figures_cases, program, record_cases, suauth_cases};
 
 const USAGE: &str = "usage: reference TABLE < questions
        reference --cases < cases
        reference --record-write < cases
        reference --record-read < cases
-       reference --figures < cases";
+       reference --figures < cases
+       reference --suauth < cases";
 
 fn main() -> ExitCode {
     let arguments: Vec<_> = std::env::args_os().skip(1).collect();
@@ -22,6 +23,7 @@ fn main() -> ExitCode {
         Some("--record-write") => finish(reply_to_lines(record_cases::reply_to_writing)),
         Some("--record-read") => finish(reply_to_lines(record_cases::reply_to_reading)),
         Some("--figures") => finish(reply_to_lines(figures_cases::reply)),
+        Some("--suauth") => finish(reply_to_lines(suauth_cases::reply)),
         Some(other) if other.starts_with('-') => fail(USAGE),
         _ => match read_table(argument) {
             Ok(table) => finish(reply_to_lines(|line| program::reply(&table, line))),

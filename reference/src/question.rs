@@ -46,7 +46,8 @@ fn is_good_command(command: &[u8]) -> bool {
         && command.split(|byte| *byte == b'/').all(is_good_component)
 }
 
-fn is_good_login(name: &[u8], most: usize) -> bool {
+/// Whether these are the bytes of a user, group or host name, one of them and at most so many.
+pub fn is_good_login(name: &[u8], most: usize) -> bool {
     !name.is_empty() && name.len() <= most && name.iter().all(|byte| is_login(*byte))
 }
 

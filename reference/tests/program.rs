@@ -72,6 +72,7 @@ fn usage() {
         &["--cases", "x"],
         &["--record-write", "x"],
         &["--record-read", "x"],
+        &["--suauth", "x"],
     ] {
         let output = run(arguments, b"");
         assert_eq!(output.status.code(), Some(2));
@@ -172,5 +173,13 @@ fn record_modes() {
     assert_eq!(output.status.code(), Some(0));
     let output = run(&["--record-read"], b"2000030006000005\nbad\n\n-\n");
     assert_eq!(output.stdout, b"0 3 1 1 5\nbad case\nbad case\nrefused 4\n");
+    assert_eq!(output.status.code(), Some(0));
+}
+
+/// The mode of su files goes on behind a bad case, and the last line needs no newline.
+#[test]
+fn su_mode() {
+    let output = run(&["--suauth"], b"613a623a44454e590a\t61\t62\t-\nbad\n61\t61\t62\t-");
+    assert_eq!(output.stdout, b"DENY 1\nbad case\n13 0\n");
     assert_eq!(output.status.code(), Some(0));
 }

@@ -1,7 +1,7 @@
 """What expanders of readable case files share: reading blocks, and printing a part of each case.
 
-A block ends at a blank line; its lines are comments, which begin with #, and then one case a line.
-Lines that begin with ## are for the reader of the file only.
+A block ends at a blank line; its lines are comments, which begin with #, and then cases, most often one a
+line. Lines that begin with ## are for the reader of the file only.
 """
 import os
 import sys
@@ -9,10 +9,14 @@ import sys
 PARTS = ("--cases", "--answers", "--names")
 
 
-def read(name, case):
-    """All cases of a file beside the scripts: line number and comment, then what CASE makes of the line."""
+def read(name, case, begin=lambda: None):
+    """All cases of a file beside the scripts: line number and comment, then what CASE makes of the line.
+
+    CASE makes nothing of a line that is only a part of the cases behind it; BEGIN is called before each block.
+    """
     cases = []
     comment, asked = [], False
+    begin()
     path = os.path.join(os.path.dirname(os.path.abspath(__file__)), name)
     with open(path, encoding="utf-8") as f:
         for number, line in enumerate(f, 1):
@@ -20,6 +24,7 @@ def read(name, case):
             try:
                 if not line:
                     comment, asked = [], False
+                    begin()
                 elif line.startswith("##"):
                     pass
                 elif line.startswith("#"):
@@ -30,7 +35,9 @@ def read(name, case):
                     if not comment:
                         raise ValueError("a case needs a comment")
                     asked = True
-                    cases.append((number, " ".join(comment)) + case(line))
+                    made = case(line)
+                    if made:
+                        cases.append((number, " ".join(comment)) + made)
             except ValueError as e:
                 sys.exit("%s:%d: %s" % (name, number, e))
     return cases

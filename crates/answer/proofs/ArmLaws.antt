@@ -16,6 +16,7 @@ use Rattle.question.specs.declared.WeekMinute.{WeekMinute}
 use Rattle.question.specs.declared.LastAuthentication.{LastAuthentication}
 use Rattle.line.specs.Fold.{faulty}
 use Rattle.line.specs.Scan.{scanned}
+use Rattle.line.specs.Line.{backslash}
 use Rattle.line.specs.Contract.{LineEnds, Scans}
 use Rattle.line.specs.declared.scan.ScannedLine.{ScannedLine}
 use Rattle.variables.specs.Scope.{definition}
@@ -57,7 +58,7 @@ place-within h e = let u = rw e at h in (u .defines .3, u .defines .4)
 pub ends-kept : {line text text′ ends ends′ : List ℕ} {r : ScannedLine} → Scans line text text′ ends ends′ r → length ends′ ≡ length ends
 ends-kept {ends = ends} w = rw (w .places) (laid-length ends 0 _)
 
-module _ {q : Question} {t : List ℕ} {v : Variables} {r : Reader} {d : Kept} {path : List ℕ} {at number e count : ℕ} {command user groups host : List ℕ} {minute : WeekMinute} {last : LastAuthentication} {args : List ℕ} {fs : List (List ℕ)} (k : AskedWith q command user groups host minute last args) (f : SoFar q t v r d path at number) (l : LineEnds t at e count) (g : scanned (take (e - 1 - at) (drop at t)) ≡ value fs) where
+module _ {q : Question} {t : List ℕ} {v : Variables} {r : Reader} {d : Kept} {path : List ℕ} {at number e count : ℕ} {command user groups host : List ℕ} {minute : WeekMinute} {last : LastAuthentication} {args : List ℕ} {fs : List (List ℕ)} (k : AskedWith q command user groups host minute last args) (f : SoFar q t v r d path at number) (l : LineEnds backslash t at e count) (g : scanned (take (e - 1 - at) (drop at t)) ≡ value fs) where
   -- what the reader of control lines answers
   abbrev Acted : Action → Type 0
   Acted x = (p : Question) (line : ℕ) (s : State) → p .user ≡ user → p .host ≡ host → s .definitions ≡ definitionsIn (v .bytes) (v .sizes) (v .count) → s .shell ≡ r .shell → fieldsRead 4 p line s fs ≡ acted p line s fs x

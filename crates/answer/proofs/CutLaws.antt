@@ -3,22 +3,21 @@ use mathlib.Core.Path.{_≡_, refl, sym, ap, _∙_}
 use mathlib.Core.Bool.{Bool, true, false, cond}
 use mathlib.Core.List.{List, _++_}
 use mathlib.Core.Option.{Option, none, some, orElse, Option·map}
-use Prim.Native.Nat.{ℕ, _≤_, _<_}
+use Prim.Native.Nat.{ℕ, _≤_}
 use native.Mathlib.Omega.{arith}
-use native.Mathlib.Decide.{decLe}
-use borrow.Author.Tests.{le-leb, lt-leb, leb-true, le-ltb, lt-ltb}
+use borrow.Author.Tests.{le-leb, leb-true}
 use lib.Dec.{eqb, leb}
 use lib.ListN.{length, take, length-take, length-append}
 use lib.Seq.{take-at}
-use Rattle.text.proofs.Laws.{clash, pick-both}
+use Rattle.text.proofs.Laws.{clash}
 use Rattle.fault.specs.declared.Cause.{Cause}
-use Rattle.fault.specs.Fault.{Reading, fault, value, require}
+use Rattle.fault.specs.Fault.{Reading, fault, value}
 use Rattle.fault.proofs.Numbers.{above-decisions}
 use Rattle.question.specs.Question.{Question}
-use Rattle.line.specs.Line.{linesOf, endsAt, cutPlace, endOfLine}
+use Rattle.line.specs.Line.{backslash, endsAt, cutPlace}
 use Rattle.line.specs.Fold.{Refusal, faulty, cut}
 use Rattle.line.specs.Refused.{refusedByte}
-use Rattle.line.proofs.FoldLaws.{Decides, decidedUpTo, cuts}
+use Rattle.line.proofs.FoldLaws.{Decides, cuts-told}
 use Rattle.line.proofs.RefusedLaws.{clean-cut}
 use Rattle.entry.specs.Verdict.{Verdict, permit, password, stoppedByNargs, stoppedByArgument, stoppedByPath}
 use Rattle.reader.specs.State.{Decision, decidedAt, start}
@@ -102,25 +101,12 @@ not-two b line stoppedByArgument = refl
 not-two b line stoppedByPath = refl
 
 -- ---- the cut table, by what the whole one gives
-module _ (t b : List ℕ) (n : ℕ) where
-  -- what is decided up to n is what the cut table must answer, where a line ends there
-  up-to : (o : Option Decision) → settled b (value (decidedUpTo (λ d. d .line) (linesOf t) n o)) ≡ cond (nothingYet t n (settled b (value o))) (result NoEntry b) (settled b (value o))
-  unfolding nothingYet
-  up-to none = sym (pick-both (nothingYet t n (result NoEntry b)) (result NoEntry b))
-  up-to (some d) = rw (not-two b (d .line) (d .verdict), line-told b (d .line) (d .verdict)) (elim (decLe (endOfLine (d .line) (linesOf t)) n) [
-    | yes h ↦ rw (le-leb (endOfLine (d .line) (linesOf t)) n h, le-ltb n (endOfLine (d .line) (linesOf t)) h)
-    | no h ↦ let k : n < endOfLine (d .line) (linesOf t) = omega arith in rw (lt-leb (endOfLine (d .line) (linesOf t)) n k, lt-ltb n (endOfLine (d .line) (linesOf t)) k)
-  ])
-
-  by-end : (o : Option Decision) (x : Bool) → settled b (require x (cut (cutPlace t n)) (value (decidedUpTo (λ d. d .line) (linesOf t) n o))) ≡ cond x (cond (nothingYet t n (settled b (value o))) (result NoEntry b) (settled b (value o))) (result (CutShort (cutPlace t n)) b)
-  by-end o true = up-to o
-  by-end o false = refl
-
-  cut-gives : (q : Question) → n ≤ length t → (r : Reading (Refusal Cause) (Option Decision)) → linesGive q t ≡ r → isDecision (settled b r) ≡ true → settled b (linesGive q (take n t)) ≡ cutAnswer t b n (settled b r)
-  unfolding cutAnswer isDecision toldOf start
-  cut-gives q l (fault (faulty c p)) e f = no-decision (sym (above-decisions c) ∙ f)
-  cut-gives q l (fault (cut p)) e f = no-decision f
-  cut-gives q l (value o) e f = ap (settled b) (cuts (lineRead q) (λ s. s .decision) (λ d. d .line) (decides q) start refl t n l o e) ∙ by-end o (endsAt t n)
+cut-gives : (t b : List ℕ) (n : ℕ) (q : Question) → n ≤ length t → (r : Reading (Refusal Cause) (Option Decision)) → linesGive q t ≡ r → isDecision (settled b r) ≡ true → settled b (linesGive q (take n t)) ≡ cutAnswer t b n (settled b r)
+unfolding cutAnswer nothingYet isDecision toldOf start
+cut-gives t b n q l (fault (faulty c p)) e f = no-decision (sym (above-decisions c) ∙ f)
+cut-gives t b n q l (fault (cut p)) e f = no-decision f
+cut-gives t b n q l (value o) e f =
+    cuts-told (lineRead q) (λ s. s .decision) (λ d. d .line) (decides q) (settled b) (λ w. eqb (toldBy w .number) 2) decidingLine (λ d. not-two b (d .line) (d .verdict)) (λ d. line-told b (d .line) (d .verdict)) backslash start refl t n l o e
 
 -- for all tables, questions, buffers and cuts at once
 pub cut-safe : CutSafe
@@ -142,9 +128,9 @@ unfolding cutAnswer isDecision toldOf
 later-lines t u a b d e f =
     let l : length t ≤ length (t ++ u) = omega (arith, length-append t u) in
     let h : answerOf t a b ≡ cutAnswer (t ++ u) b (length t) (answerOf (t ++ u) a b) = ap (λ s. answerOf s a b) (sym (take-at t u (length t) refl)) ∙ cut-safe (t ++ u) a b (length t) l f in
-    sym (h ∙ by (endsAt (t ++ u) (length t)) (nothingYet (t ++ u) (length t) (answerOf (t ++ u) a b)) h)
+    sym (h ∙ by (endsAt backslash (t ++ u) (length t)) (nothingYet (t ++ u) (length t) (answerOf (t ++ u) a b)) h)
   where
-    by : (x y : Bool) → answerOf t a b ≡ cond x (cond y (result NoEntry b) (answerOf (t ++ u) a b)) (result (CutShort (cutPlace (t ++ u) (length t))) b) → cond x (cond y (result NoEntry b) (answerOf (t ++ u) a b)) (result (CutShort (cutPlace (t ++ u) (length t))) b) ≡ answerOf (t ++ u) a b
+    by : (x y : Bool) → answerOf t a b ≡ cond x (cond y (result NoEntry b) (answerOf (t ++ u) a b)) (result (CutShort (cutPlace backslash (t ++ u) (length t))) b) → cond x (cond y (result NoEntry b) (answerOf (t ++ u) a b)) (result (CutShort (cutPlace backslash (t ++ u) (length t))) b) ≡ answerOf (t ++ u) a b
     by true false h = refl
     by true true h = no-decision (sym e ∙ ap (λ o. eqb (toldBy o .number) 2) h)
     by false y h = no-decision (sym (ap isDecision h) ∙ d)

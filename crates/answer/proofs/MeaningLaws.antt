@@ -15,7 +15,7 @@ use Rattle.fault.specs.declared.Cause.{Cause}
 use Rattle.fault.specs.Fault.{Reading, fault, value}
 use Rattle.fault.proofs.Readings.{Gives}
 use Rattle.question.specs.Question.{Question}
-use Rattle.line.specs.Line.{linesOf}
+use Rattle.line.specs.Line.{backslash, linesOf}
 use Rattle.line.specs.Fold.{Refusal, faulty, cut}
 use Rattle.line.specs.Refused.{refusedByte}
 use Rattle.line.proofs.FoldLaws.{run-keeps, run-through}
@@ -86,8 +86,8 @@ leaves-settled b (value (some d)) h = leaves-resolved b (d .line) (d .verdict) (
 
 short-lines : (q : Question) (t : List ℕ) → Gives ShortDecision (linesGive q t)
 short-lines q t o e =
-    let x = run-through (lineRead q) (λ s. s .decision) start t o e in
-    rw (x .2) at (run-keeps (lineRead q) ShortState (λ s u l h f. short-keeps q s u l h f) (linesOf t) start (x .0) short-start (x .1) .decision)
+    let x = run-through backslash (lineRead q) (λ s. s .decision) start t o e in
+    rw (x .2) at (run-keeps (lineRead q) ShortState (λ s u l h f. short-keeps q s u l h f) (linesOf backslash t) start (x .0) short-start (x .1) .decision)
 
 leaves-table : (t b : List ℕ) (o : Option Question) → Leaves b (readTable t b o)
 unfolding toldOf

@@ -12,6 +12,7 @@ use Rattle.text.proofs.Laws.{clash, take-min}
 use Rattle.fault.specs.Fault.{Reading, fault, value, andThen}
 use Rattle.fault.specs.declared.Cause.{Cause}
 use Rattle.question.specs.Question.{Question}
+use Rattle.line.specs.Line.{backslash}
 use Rattle.line.specs.Fold.{faulty, cut}
 use Rattle.line.specs.Refused.{refusedByte}
 use Rattle.line.specs.Scan.{scanned}
@@ -90,34 +91,34 @@ module _ (q : Question) (t : List ℕ) where
     pub variables : state .definitions ≡ definitionsOf v
     pub keeps : Keeps (q .args) r state
     pub decided : decidedIn d path ≡ state .decision
-    pub rest : outcomeFrom (lineRead q) (λ s. s .decision) t at number state ≡ linesGive q t
+    pub rest : outcomeFrom backslash (lineRead q) (λ s. s .decision) t at number state ≡ linesGive q t
 
   pub so-start : {v : Variables} {r : Reader} {d : Kept} {path : List ℕ} → definitionsOf v ≡ [] → Keeps (q .args) r start → d .made ≡ false → SoFar v r d path 0 1
   unfolding start
-  so-start e k m = record { state = start; variables = sym e; keeps = k; decided = rw m; rest = from-start (lineRead q) (λ s. s .decision) t start }
+  so-start e k m = record { state = start; variables = sym e; keeps = k; decided = rw m; rest = from-start backslash (lineRead q) (λ s. s .decision) t start }
 
   module _ {v : Variables} {r : Reader} {d : Kept} {path : List ℕ} {at number : ℕ} (f : SoFar v r d path at number) where
     -- no line is left
     pub so-end : length t ≤ at → linesGive q t ≡ value (decidedIn d path)
-    so-end h = sym (f .rest) ∙ from-end (lineRead q) (λ s. s .decision) t at number (f .state) h ∙ ap value (sym (f .decided))
+    so-end h = sym (f .rest) ∙ from-end backslash (lineRead q) (λ s. s .decision) t at number (f .state) h ∙ ap value (sym (f .decided))
 
     -- a line is left that does not end
-    pub so-cut : at < length t → linesFrom t at number ≡ [] → linesGive q t ≡ fault (cut at)
-    so-cut h e = sym (f .rest) ∙ from-cut (lineRead q) (λ s. s .decision) t at number (f .state) h e
+    pub so-cut : at < length t → linesFrom backslash t at number ≡ [] → linesGive q t ≡ fault (cut at)
+    so-cut h e = sym (f .rest) ∙ from-cut backslash (lineRead q) (λ s. s .decision) t at number (f .state) h e
 
     enters : (x : Entry) → Keeps (q .args) r (withEntry q number x (f .state))
     unfolding withEntry
     enters x = record { options = f .keeps .options; failures = f .keeps .failures; shell = f .keeps .shell }
 
-    module _ {e count : ℕ} (l : LineEnds t at e count) where
+    module _ {e count : ℕ} (l : LineEnds backslash t at e count) where
       abbrev bytes : List ℕ
       bytes = take (e - 1 - at) (drop at t)
 
       stopped : {c : Cause} → lineRead q (f .state) (lineAt t at e number) ≡ fault c → linesGive q t ≡ fault (faulty c at)
-      stopped g = sym (f .rest) ∙ from-fault (lineRead q) (λ s. s .decision) t at number (f .state) l g
+      stopped g = sym (f .rest) ∙ from-fault backslash (lineRead q) (λ s. s .decision) t at number (f .state) l g
 
       onward : {s : State} {v′ : Variables} {r′ : Reader} {d′ : Kept} {path′ : List ℕ} → lineRead q (f .state) (lineAt t at e number) ≡ value s → s .definitions ≡ definitionsOf v′ → Keeps (q .args) r′ s → decidedIn d′ path′ ≡ s .decision → SoFar v′ r′ d′ path′ e (number + count)
-      onward {s} g x k m = record { state = s; variables = x; keeps = k; decided = m; rest = sym (from-on (lineRead q) (λ y. y .decision) t at number (f .state) l g) ∙ f .rest }
+      onward {s} g x k m = record { state = s; variables = x; keeps = k; decided = m; rest = sym (from-on backslash (lineRead q) (λ y. y .decision) t at number (f .state) l g) ∙ f .rest }
 
       -- the line itself has a fault
       pub so-scanned : {c : Cause} → scanned bytes ≡ fault c → linesGive q t ≡ fault (faulty c at)

@@ -12,6 +12,7 @@ use Rattle.fault.specs.declared.Cause.{Cause}
 use Rattle.question.specs.declared.WeekMinute.{WeekMinute}
 use Rattle.question.specs.declared.LastAuthentication.{LastAuthentication}
 use Rattle.question.specs.Question.{Question, questionOf}
+use Rattle.line.specs.Line.{backslash}
 use Rattle.line.specs.Fold.{Refusal, faulty, cut, outcome}
 use Rattle.line.specs.Refused.{refusedByte}
 use Rattle.text.specs.Class.{Range}
@@ -86,7 +87,7 @@ settled b (value (some d)) = resolved b (d .line) (d .verdict)
 
 -- what the control lines of a table give: the fold of `lineRead` over them, from the start
 abbrev pub linesGive : Question → List ℕ → Reading (Refusal Cause) (Option Decision)
-linesGive q t = outcome (lineRead q) (λ s. s .decision) start t
+linesGive q t = outcome backslash (lineRead q) (λ s. s .decision) start t
 
 -- 12 (first such byte), then control lines in table order
 abbrev pub readBytes : List ℕ → Question → List ℕ → Option ℕ → Outcome

@@ -12,7 +12,7 @@ use Rattle.text.proofs.Laws.{clash}
 use Rattle.fault.specs.Fault.{Reading, fault, value, andThen, require}
 use Rattle.fault.specs.declared.Cause.{Cause}
 use Rattle.question.specs.Question.{Question}
-use Rattle.line.specs.Line.{withByte, endsLine, endedLines, cutShort, Line, newlines, placed, linesOf, lastEnd}
+use Rattle.line.specs.Line.{backslash, withByte, endsLine, endedLines, cutShort, Line, newlines, placed, linesOf, lastEnd}
 use Rattle.line.specs.Fold.{Refusal, faulty, cut, located, run, outcome}
 use Rattle.line.specs.Refused.{accepted, refusedFrom, refusedByte}
 use Rattle.entry.specs.Verdict.{Verdict}
@@ -32,10 +32,10 @@ with-total true b ss = omega arith
 with-total false b [] = omega arith
 with-total false b (s ∷ ss) = omega arith
 
-ended-total : (after : Bool) (s : List ℕ) → total (endedLines after s) ≤ length s
+ended-total : (after : Bool) (s : List ℕ) → total (endedLines backslash after s) ≤ length s
 unfolding endedLines
 ended-total after [] = omega arith
-ended-total after (b ∷ s) = omega (arith, ended-total (is "\\" b) s, with-total (endsLine after b) b (endedLines (is "\\" b) s))
+ended-total after (b ∷ s) = omega (arith, ended-total (is "\\" b) s, with-total (endsLine after b) b (endedLines backslash (is "\\" b) s))
 
 count-few : (f : ℕ → Bool) (s : List ℕ) → count f s ≤ length s
 unfolding count
@@ -58,8 +58,8 @@ placed-below at k (s ∷ ss) m n h i =
     let c = count-few (is "\n") s in
     (omega arith, omega arith, omega arith, placed-below (at + length s + 1) (k + newlines s + 1) ss m n (omega arith) (omega arith))
 
-pub lines-below : (t : List ℕ) → Below (length t) (1 + length t) (linesOf t)
-lines-below t = let h = ended-total false t in placed-below 0 1 (endedLines false t) (length t) (1 + length t) (omega arith) (omega arith)
+pub lines-below : (t : List ℕ) → Below (length t) (1 + length t) (linesOf backslash t)
+lines-below t = let h = ended-total false t in placed-below 0 1 (endedLines backslash false t) (length t) (1 + length t) (omega arith) (omega arith)
 
 last-below : (b m n : ℕ) (ls : List Line) → b ≤ m → Below m n ls → lastEnd b ls ≤ m
 last-below b m n [] h w = h
@@ -79,19 +79,19 @@ run-fault {F} {S} step m n (l ∷ ls) s r w e = go (step s l) (λ x f. run-fault
     go (fault c) f e = let q : faulty c (l .begin) ≡ r = cc in rw (← q) (w .0)
     go (value x) f e = f x e
 
-outcome-fault : {F S D : Type 0} (step : S → Line → Reading F S) (decision : S → Option D) (s : S) (t : List ℕ) (r : Refusal F) → outcome step decision s t ≡ fault r → PlaceIn (length t) r
+outcome-fault : {F S D : Type 0} (step : S → Line → Reading F S) (decision : S → Option D) (s : S) (t : List ℕ) (r : Refusal F) → outcome backslash step decision s t ≡ fault r → PlaceIn (length t) r
 unfolding outcome
-outcome-fault {F} {S} step decision s t r e = go (run step (linesOf t) s) refl e
+outcome-fault {F} {S} step decision s t r e = go (run step (linesOf backslash t) s) refl e
   where
-    ends : (x : Bool) (last : S) → require x (cut (lastEnd 0 (linesOf t))) (value (decision last)) ≡ fault r → PlaceIn (length t) r
+    ends : (x : Bool) (last : S) → require x (cut (lastEnd 0 (linesOf backslash t))) (value (decision last)) ≡ fault r → PlaceIn (length t) r
     ends true last e = clash cc
     ends false last e =
-        let q : cut (lastEnd 0 (linesOf t)) ≡ r = cc in
-        rw (← q) (last-below 0 (length t) (1 + length t) (linesOf t) (omega arith) (lines-below t))
+        let q : cut (lastEnd 0 (linesOf backslash t)) ≡ r = cc in
+        rw (← q) (last-below 0 (length t) (1 + length t) (linesOf backslash t) (omega arith) (lines-below t))
 
-    go : (x : Reading (Refusal F) S) → run step (linesOf t) s ≡ x → andThen x (λ last. require (not (cutShort t)) (cut (lastEnd 0 (linesOf t))) (value (decision last))) ≡ fault r → PlaceIn (length t) r
-    go (fault q) i e = let z : q ≡ r = cc in run-fault step (length t) (1 + length t) (linesOf t) s r (lines-below t) (i ∙ ap fault z)
-    go (value last) i e = ends (not (cutShort t)) last e
+    go : (x : Reading (Refusal F) S) → run step (linesOf backslash t) s ≡ x → andThen x (λ last. require (not (cutShort backslash t)) (cut (lastEnd 0 (linesOf backslash t))) (value (decision last))) ≡ fault r → PlaceIn (length t) r
+    go (fault q) i e = let z : q ≡ r = cc in run-fault step (length t) (1 + length t) (linesOf backslash t) s r (lines-below t) (i ∙ ap fault z)
+    go (value last) i e = ends (not (cutShort backslash t)) last e
 
 -- a faulty or cut line begins in the table, or at its end
 pub refused-place : (q : Question) (t : List ℕ) (r : Refusal Cause) → linesGive q t ≡ fault r → PlaceIn (length t) r
@@ -134,6 +134,6 @@ run-numbers q m n (l ∷ ls) s s′ w h e = go (lineRead q s l) refl (λ x i f. 
         f y (rw (k .decides) (number-or n (l .number) (s .decision) (k .own) h (w .2))) e
 
 -- the deciding line's number is at most one more than the table's bytes
-pub decided-line : (q : Question) (t : List ℕ) (s : State) (d : Decision) → run (lineRead q) (linesOf t) start ≡ value s → s .decision ≡ some d → d .line ≤ 1 + length t
+pub decided-line : (q : Question) (t : List ℕ) (s : State) (d : Decision) → run (lineRead q) (linesOf backslash t) start ≡ value s → s .decision ≡ some d → d .line ≤ 1 + length t
 unfolding start
-decided-line q t s d e f = rw f at (run-numbers q (length t) (1 + length t) (linesOf t) start s (lines-below t) tt e)
+decided-line q t s d e f = rw f at (run-numbers q (length t) (1 + length t) (linesOf backslash t) start s (lines-below t) tt e)

@@ -14,7 +14,7 @@ use Rattle.text.proofs.Laws.{pick-of}
 use Rattle.fault.specs.Fault.{Reading, fault, value}
 use Rattle.fault.specs.declared.Cause.{Cause}
 use Rattle.question.specs.Question.{Question}
-use Rattle.line.specs.Line.{linesOf}
+use Rattle.line.specs.Line.{backslash, linesOf}
 use Rattle.line.specs.Fold.{Refusal, faulty, cut}
 use Rattle.line.specs.Refused.{refusedByte}
 use Rattle.line.proofs.FoldLaws.{run-keeps, run-through}
@@ -65,8 +65,8 @@ module _ (t : List ℕ) (a : Asked) (b : List ℕ) where
   short-decision : (w : Asks t a b) (d : Decision) → length t ≤ tableLimit → linesGive (w .question) t ≡ value (some d) → ShortTold (toldBy (answerOf t a b))
   short-decision w d h e =
       let q = w .question in
-      let x = run-through (lineRead q) (λ s. s .decision) start t (some d) e in
-      let k = run-keeps (lineRead q) ShortState (λ s u l i f. short-keeps q s u l i f) (linesOf t) start (x .0) short-start (x .1) .decision in
+      let x = run-through backslash (lineRead q) (λ s. s .decision) start t (some d) e in
+      let k = run-keeps (lineRead q) ShortState (λ s u l i f. short-keeps q s u l i f) (linesOf backslash t) start (x .0) short-start (x .1) .decision in
       let l = decided-line q t (x .0) d (x .1) (x .2) in
       rw (decision-told w d e) (short-verdict (d .line) (d .verdict) (omega arith) (rw (x .2) at k))
 

@@ -93,7 +93,7 @@ fn put_stop(number: u8, line: usize, out: &mut [u8]) -> Filled
 }
 
 // The line of a refusal.
-fn put_refusal(number: u8, place: usize, out: &mut [u8]) -> Filled
+pub fn put_refusal(number: u8, place: usize, out: &mut [u8]) -> Filled
     ensures { λ r. ⌜ Wrote (now (out .entry)) (now (out .exit)) 0 (refusalText number place) r ⌝ }
 {
     let numbered = then_decimal(put_all(out, 0, b"refused "), number as usize, out);

@@ -152,7 +152,7 @@ fn put_parts(s: &[u8], c: u8, out: &mut [u8], n: usize) -> Filled
 }
 
 // GROUPS at the buffer's beginning: none for `-`, else the names between commas.
-fn put_groups(s: &[u8], out: &mut [u8]) -> Filled
+pub fn put_groups(s: &[u8], out: &mut [u8]) -> Filled
     ensures { λ r. ⌜ Wrote (now (out .entry)) (now (out .exit)) 0 (groupsIn (now (s .entry))) r ⌝ }
 {
     if equal(s, b"-") {
@@ -183,7 +183,7 @@ struct Ends {
 }
 
 // Where the piece that begins at a place ends: at a space, or at the line's end.
-fn piece_end(line: &[u8], from: usize) -> usize
+pub fn piece_end(line: &[u8], from: usize) -> usize
     ensures { λ r. ⌜ (r ≡ from + lead 32 (drop from (now (line .entry)))) × (from ≤ r) × (r ≤ from + (length (now (line .entry)) - from)) ⌝ }
 {
     byte_from(line, from, b' ')

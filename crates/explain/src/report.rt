@@ -38,7 +38,7 @@ fn then_refused(filled: Filled, number: u8, out: &mut [u8]) -> Filled
 }
 
 // A refusal that has no place in a line.
-fn then_refusal(filled: Filled, number: u8, words: &[u8], out: &mut [u8]) -> Filled
+pub fn then_refusal(filled: Filled, number: u8, words: &[u8], out: &mut [u8]) -> Filled
     ensures { λ r. ⌜ WroteAfter filled (now (out .entry)) (now (out .exit)) (refusal number (now (words .entry))) r ⌝ }
 {
     let head = then_refused(filled, number, out);
@@ -46,7 +46,7 @@ fn then_refusal(filled: Filled, number: u8, words: &[u8], out: &mut [u8]) -> Fil
 }
 
 // A refusal with its place.
-fn then_refusal_at(
+pub fn then_refusal_at(
     filled: Filled,
     number: u8,
     words: &[u8],

@@ -1,19 +1,19 @@
--- A cut table, for any fold over control lines that decides once. Assumes nothing.
+-- A cut text, for any fold over its lines that decides once, whatever bytes continue a line. Assumes nothing.
 use mathlib.Core.Path.{_≡_, refl, sym, ap, _∙_}
-use mathlib.Core.Bool.{not, cond, Bool·not-not}
+use mathlib.Core.Bool.{Bool, true, false, not, cond, _||_, Bool·not-not}
 use mathlib.Core.List.{List, [], _∷_}
 use mathlib.Core.Option.{Option, none, some}
 use Prim.Native.Nat.{ℕ, suc, _≤_, _<_}
 use native.Mathlib.Omega.{arith}
 use native.Mathlib.Decide.{decLe}
-use borrow.Author.Tests.{eq-eqb, ne-eqb, le-leb, lt-leb}
-use lib.Dec.{eqb, leb}
+use borrow.Author.Tests.{eq-eqb, ne-eqb, le-leb, lt-leb, le-ltb, lt-ltb}
+use lib.Dec.{eqb, leb, ltb}
 use lib.ListN.{length, take}
-use Rattle.text.proofs.Laws.{clash}
+use Rattle.text.proofs.Laws.{clash, pick-both}
 use Rattle.fault.specs.Fault.{Reading, fault, value, require}
 use Rattle.fault.proofs.Readings.{never, same-value, and-then, required}
 use Rattle.line.specs.Line.{Line, linesOf, notAbove, lastEnd, cutShort, cutPlace, endsAt, endOfLine}
-use Rattle.line.specs.Fold.{cut, located, run, outcome}
+use Rattle.line.specs.Fold.{Refusal, cut, located, run, outcome}
 use Rattle.line.proofs.LineLaws.{Ordered, lines-ordered, lines-cut, cut-short, none-above}
 
 -- `keeps`, a decision stays; `fresh`, it is made at the line whose number it has
@@ -36,12 +36,12 @@ unfolding run
 run-keeps step P k [] s s′ p e = rw (← same-value e) p
 run-keeps step P k (l ∷ ls) s s′ p e = let x = first-step step l ls s s′ e in run-keeps step P k ls (x .0) s′ (k s (x .0) l p (x .1)) (x .2)
 
--- a table that is decided was run through
-pub run-through : {F S D : Type 0} (step : S → Line → Reading F S) (decision : S → Option D) (s : S) (t : List ℕ) (o : Option D) → outcome step decision s t ≡ value o → (s′ : S) × (run step (linesOf t) s ≡ value s′) × (decision s′ ≡ o)
+-- a text that is decided was run through
+pub run-through : {F S D : Type 0} (continues : ℕ → Bool) (step : S → Line → Reading F S) (decision : S → Option D) (s : S) (t : List ℕ) (o : Option D) → outcome continues step decision s t ≡ value o → (s′ : S) × (run step (linesOf continues t) s ≡ value s′) × (decision s′ ≡ o)
 unfolding outcome
-run-through step decision s t o e =
-    let x = and-then (run step (linesOf t) s) _ o e in
-    let y = required (not (cutShort t)) (cut (lastEnd 0 (linesOf t))) (value (decision (x .0))) o (x .2) in
+run-through continues step decision s t o e =
+    let x = and-then (run step (linesOf continues t) s) _ o e in
+    let y = required (not (cutShort continues t)) (cut (lastEnd 0 (linesOf continues t))) (value (decision (x .0))) o (x .2) in
     (x .0, x .1, same-value (y .1))
 
 -- what is decided up to n, where o is decided by all lines
@@ -123,10 +123,26 @@ module _ {F S D : Type 0} (step : S → Line → Reading F S) (decision : S → 
         | no h ↦ stopped n k l ls s s′ (omega arith, o .1, o .2) r
       ]
 
-  -- a table that gives o, cut after n bytes: refused where no control line ends at n, else what is decided up to there
-  pub cuts : (s : S) → decision s ≡ none → (t : List ℕ) (n : ℕ) → n ≤ length t → (o : Option D) → outcome step decision s t ≡ value o → outcome step decision s (take n t) ≡ require (endsAt t n) (cut (cutPlace t n)) (value (decidedUpTo numberOf (linesOf t) n o))
+  -- a text that gives o, cut after n bytes: refused where no line ends at n, else what is decided up to there
+  cuts : (continues : ℕ → Bool) (s : S) → decision s ≡ none → (t : List ℕ) (n : ℕ) → n ≤ length t → (o : Option D) → outcome continues step decision s t ≡ value o → outcome continues step decision s (take n t) ≡ require (endsAt continues t n) (cut (cutPlace continues t n)) (value (decidedUpTo numberOf (linesOf continues t) n o))
   unfolding outcome cutPlace
-  cuts s v t n l o e =
-      let x = run-through step decision s t o e in
-      let c = cut-run n 0 1 (linesOf t) s (x .0) (lines-ordered t) (x .1) in
-      rw (lines-cut n t, cut-short n t l, c .runs, c .told v, x .2, Bool·not-not (endsAt t n))
+  cuts continues s v t n l o e =
+      let x = run-through continues step decision s t o e in
+      let c = cut-run n 0 1 (linesOf continues t) s (x .0) (lines-ordered continues t) (x .1) in
+      rw (lines-cut continues n t, cut-short continues n t l, c .runs, c .told v, x .2, Bool·not-not (endsAt continues t n))
+
+  -- the same, told as an answer: `nothing` says that no line decides, `lineOf` which line does
+  module _ {A : Type 0} (told : Reading (Refusal F) (Option D) → A) (nothing : A → Bool) (lineOf : A → ℕ) (something : (d : D) → nothing (told (value (some d))) ≡ false) (line-told : (d : D) → lineOf (told (value (some d))) ≡ numberOf d) where
+    up-to : (ls : List Line) (n : ℕ) (o : Option D) → told (value (decidedUpTo numberOf ls n o)) ≡ cond (nothing (told (value o)) || ltb n (endOfLine (lineOf (told (value o))) ls)) (told (value none)) (told (value o))
+    up-to ls n none = sym (pick-both (nothing (told (value none)) || ltb n (endOfLine (lineOf (told (value none))) ls)) (told (value none)))
+    up-to ls n (some d) = rw (something d, line-told d) (elim (decLe (endOfLine (numberOf d) ls) n) [
+      | yes h ↦ rw (le-leb (endOfLine (numberOf d) ls) n h, le-ltb n (endOfLine (numberOf d) ls) h)
+      | no h ↦ let k : n < endOfLine (numberOf d) ls = omega arith in rw (lt-leb (endOfLine (numberOf d) ls) n k, lt-ltb n (endOfLine (numberOf d) ls) k)
+    ])
+
+    pub cuts-told : (continues : ℕ → Bool) (s : S) → decision s ≡ none → (t : List ℕ) (n : ℕ) → n ≤ length t → (o : Option D) → outcome continues step decision s t ≡ value o → told (outcome continues step decision s (take n t)) ≡ cond (endsAt continues t n) (cond (nothing (told (value o)) || ltb n (endOfLine (lineOf (told (value o))) (linesOf continues t))) (told (value none)) (told (value o))) (told (fault (cut (cutPlace continues t n))))
+    cuts-told continues s v t n l o e = ap told (cuts continues s v t n l o e) ∙ by (endsAt continues t n)
+      where
+        by : (x : Bool) → told (require x (cut (cutPlace continues t n)) (value (decidedUpTo numberOf (linesOf continues t) n o))) ≡ cond x (cond (nothing (told (value o)) || ltb n (endOfLine (lineOf (told (value o))) (linesOf continues t))) (told (value none)) (told (value o))) (told (fault (cut (cutPlace continues t n))))
+        by true = up-to (linesOf continues t) n o
+        by false = refl

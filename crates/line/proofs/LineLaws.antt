@@ -1,4 +1,4 @@
--- The control lines of a table, and of a table that is cut. Assumes nothing.
+-- The lines of a text, and of a text that is cut. Assumes nothing.
 use mathlib.Core.Path.{_≡_, refl, sym, ap, _∙_}
 use mathlib.Core.Bool.{Bool, true, false, not, cond, _&&_, _||_}
 use mathlib.Core.List.{List, [], _∷_}
@@ -30,10 +30,10 @@ ordered at k (s ∷ ss) =
     let e = at + length s + 1 in let n = k + newlines s + 1 in
     (omega arith, omega arith, ordered-le e (suc k) n (placed e n ss) (omega arith) (ordered e n ss))
 
-pub lines-ordered : (t : List ℕ) → Ordered 0 1 (linesOf t)
-lines-ordered t = ordered 0 1 (endedLines false t)
+pub lines-ordered : (continues : ℕ → Bool) (t : List ℕ) → Ordered 0 1 (linesOf continues t)
+lines-ordered continues t = ordered 0 1 (endedLines continues false t)
 
--- ---- the control lines of a cut table are those whose ends are not above the cut
+-- ---- the lines of a cut text are those whose ends are not above the cut
 -- the lines that fit, each with its newline, into n bytes
 abbrev fitting : ℕ → List (List ℕ) → List (List ℕ)
 fitting n [] = []
@@ -54,11 +54,11 @@ fitting-with n b false (s ∷ ss) = elim (decLe n (length s)) [
       rw (lt-ltb (length s) n k, lt-ltb (suc (length s)) (suc n) (omega arith), z)
 ]
 
-ended-cut : (n : ℕ) (after : Bool) (s : List ℕ) → endedLines after (take n s) ≡ fitting n (endedLines after s)
+ended-cut : (continues : ℕ → Bool) (n : ℕ) (after : Bool) (s : List ℕ) → endedLines continues after (take n s) ≡ fitting n (endedLines continues after s)
 unfolding endedLines
-ended-cut zero after s = sym (fitting-none (endedLines after s))
-ended-cut (suc n) after [] = refl
-ended-cut (suc n) after (b ∷ s) = ap (withByte (endsLine after b) b) (ended-cut n (is "\\" b) s) ∙ fitting-with n b (endsLine after b) (endedLines (is "\\" b) s)
+ended-cut continues zero after s = sym (fitting-none (endedLines continues after s))
+ended-cut continues (suc n) after [] = refl
+ended-cut continues (suc n) after (b ∷ s) = ap (withByte (endsLine after b) b) (ended-cut continues n (continues b) s) ∙ fitting-with n b (endsLine after b) (endedLines continues (continues b) s)
 
 pub none-above : (n e k : ℕ) (ls : List Line) → n ≤ e → Ordered e k ls → notAbove n ls ≡ []
 none-above n e k [] h o = refl
@@ -81,8 +81,8 @@ placed-fitting n at k (s ∷ ss) = elim (decLe n (length s)) [
       rw (lt-ltb (length s) n (omega arith), le-leb (at + length s + 1) (at + n) g, i)
 ]
 
-pub lines-cut : (n : ℕ) (t : List ℕ) → linesOf (take n t) ≡ notAbove n (linesOf t)
-lines-cut n t = let z : 0 + n ≡ n = omega arith in ap (placed 0 1) (ended-cut n false t) ∙ (rw z at (placed-fitting n 0 1 (endedLines false t)))
+pub lines-cut : (continues : ℕ → Bool) (n : ℕ) (t : List ℕ) → linesOf continues (take n t) ≡ notAbove n (linesOf continues t)
+lines-cut continues n t = let z : 0 + n ≡ n = omega arith in ap (placed 0 1) (ended-cut continues n false t) ∙ (rw z at (placed-fitting n 0 1 (endedLines continues false t)))
 
 -- ---- where a line ends at the cut
 module _ (n : ℕ) where
@@ -116,20 +116,20 @@ module _ (n : ℕ) where
         rw (lt-leb (l .end) n m, none-above n (l .end) (suc (l .number)) ls (omega arith) (o .2)) h
   ]
 
-  module _ (t : List ℕ) where
-    ends-at : endsAt t n ≡ true → cutPlace t n ≡ n
+  module _ (continues : ℕ → Bool) (t : List ℕ) where
+    ends-at : endsAt continues t n ≡ true → cutPlace continues t n ≡ n
     unfolding endsAt cutPlace
     ends-at e = by (eqb n 0) refl e
       where
-        by : (x : Bool) → eqb n 0 ≡ x → x || someEnd (linesOf t) ≡ true → lastEnd 0 (notAbove n (linesOf t)) ≡ n
-        by true x f = let z = eqb-true n 0 x in rw (none-above n 0 1 (linesOf t) (omega arith) (lines-ordered t)) (sym z)
-        by false x f = at-end 0 1 (linesOf t) (lines-ordered t) f .1
+        by : (x : Bool) → eqb n 0 ≡ x → x || someEnd (linesOf continues t) ≡ true → lastEnd 0 (notAbove n (linesOf continues t)) ≡ n
+        by true x f = let z = eqb-true n 0 x in rw (none-above n 0 1 (linesOf continues t) (omega arith) (lines-ordered continues t)) (sym z)
+        by false x f = at-end 0 1 (linesOf continues t) (lines-ordered continues t) f .1
 
-    ends-not-at : endsAt t n ≡ false → cutPlace t n < n
+    ends-not-at : endsAt continues t n ≡ false → cutPlace continues t n < n
     unfolding endsAt cutPlace
-    ends-not-at e = let d = either-false (eqb n 0) (someEnd (linesOf t)) e in let z = eqb-false n 0 (d .0) in not-at-end 0 1 (linesOf t) (lines-ordered t) (omega arith) (d .1)
+    ends-not-at e = let d = either-false (eqb n 0) (someEnd (linesOf continues t)) e in let z = eqb-false n 0 (d .0) in not-at-end 0 1 (linesOf continues t) (lines-ordered continues t) (omega arith) (d .1)
 
--- ---- whether a table is cut short, by where its last line ends
+-- ---- whether a text is cut short, by where its last line ends
 -- the bytes that lines take, each with its newline
 abbrev span : List (List ℕ) → ℕ
 span [] = 0
@@ -150,43 +150,43 @@ span-most true b ss = omega arith
 span-most false b [] = omega arith
 span-most false b (s ∷ ss) = omega arith
 
-ends-whole : (after : Bool) (s : List ℕ) → lastEnds after s ≡ true → span (endedLines after s) ≡ length s
+ends-whole : (continues : ℕ → Bool) (after : Bool) (s : List ℕ) → lastEnds continues after s ≡ true → span (endedLines continues after s) ≡ length s
 unfolding lastEnds endedLines
-ends-whole after [] e = clash cc
-ends-whole after (b ∷ []) e = rw e
-ends-whole after (b ∷ c ∷ s) e =
-    let i = ends-whole (is "\\" b) (c ∷ s) e in
-    let h : 0 < span (endedLines (is "\\" b) (c ∷ s)) = omega arith in
-    span-some (endsLine after b) b (endedLines (is "\\" b) (c ∷ s)) h ∙ ap suc i
+ends-whole continues after [] e = clash cc
+ends-whole continues after (b ∷ []) e = rw e
+ends-whole continues after (b ∷ c ∷ s) e =
+    let i = ends-whole continues (continues b) (c ∷ s) e in
+    let h : 0 < span (endedLines continues (continues b) (c ∷ s)) = omega arith in
+    span-some (endsLine after b) b (endedLines continues (continues b) (c ∷ s)) h ∙ ap suc i
 
-ends-short : (after : Bool) (b : ℕ) (s : List ℕ) → lastEnds after (b ∷ s) ≡ false → span (endedLines after (b ∷ s)) < length (b ∷ s)
+ends-short : (continues : ℕ → Bool) (after : Bool) (b : ℕ) (s : List ℕ) → lastEnds continues after (b ∷ s) ≡ false → span (endedLines continues after (b ∷ s)) < length (b ∷ s)
 unfolding lastEnds endedLines
-ends-short after b [] e = rw e (omega arith)
-ends-short after b (c ∷ s) e =
-    let i = ends-short (is "\\" b) c s e in
-    let h = span-most (endsLine after b) b (endedLines (is "\\" b) (c ∷ s)) in
+ends-short continues after b [] e = rw e (omega arith)
+ends-short continues after b (c ∷ s) e =
+    let i = ends-short continues (continues b) c s e in
+    let h = span-most (endsLine after b) b (endedLines continues (continues b) (c ∷ s)) in
     omega arith
 
-pub short-table : (t : List ℕ) → cutShort t ≡ ltb (lastEnd 0 (linesOf t)) (length t)
+pub short-text : (continues : ℕ → Bool) (t : List ℕ) → cutShort continues t ≡ ltb (lastEnd 0 (linesOf continues t)) (length t)
 unfolding cutShort lastEnds endedLines placed
-short-table [] = refl
-short-table (b ∷ s) = rw (last-placed 0 1 (endedLines false (b ∷ s))) (by (lastEnds false (b ∷ s)) refl)
+short-text continues [] = refl
+short-text continues (b ∷ s) = rw (last-placed 0 1 (endedLines continues false (b ∷ s))) (by (lastEnds continues false (b ∷ s)) refl)
   where
-    by : (x : Bool) → lastEnds false (b ∷ s) ≡ x → not x && true ≡ ltb (0 + span (endedLines false (b ∷ s))) (length (b ∷ s))
+    by : (x : Bool) → lastEnds continues false (b ∷ s) ≡ x → not x && true ≡ ltb (0 + span (endedLines continues false (b ∷ s))) (length (b ∷ s))
     by true x =
-        let h : length (b ∷ s) ≤ 0 + span (endedLines false (b ∷ s)) = omega (arith, ends-whole false (b ∷ s) x) in
-        sym (le-ltb (0 + span (endedLines false (b ∷ s))) (length (b ∷ s)) h)
+        let h : length (b ∷ s) ≤ 0 + span (endedLines continues false (b ∷ s)) = omega (arith, ends-whole continues false (b ∷ s) x) in
+        sym (le-ltb (0 + span (endedLines continues false (b ∷ s))) (length (b ∷ s)) h)
     by false x =
-        let h : 0 + span (endedLines false (b ∷ s)) < length (b ∷ s) = omega (arith, ends-short false b s x) in
-        sym (lt-ltb (0 + span (endedLines false (b ∷ s))) (length (b ∷ s)) h)
+        let h : 0 + span (endedLines continues false (b ∷ s)) < length (b ∷ s) = omega (arith, ends-short continues false b s x) in
+        sym (lt-ltb (0 + span (endedLines continues false (b ∷ s))) (length (b ∷ s)) h)
 
--- a cut leaves a table that is cut short exactly where it falls inside a control line
-pub cut-short : (n : ℕ) (t : List ℕ) → n ≤ length t → cutShort (take n t) ≡ not (endsAt t n)
+-- a cut leaves a text that is cut short exactly where it falls inside a line
+pub cut-short : (continues : ℕ → Bool) (n : ℕ) (t : List ℕ) → n ≤ length t → cutShort continues (take n t) ≡ not (endsAt continues t n)
 unfolding cutPlace
-cut-short n t h =
+cut-short continues n t h =
     let l : length (take n t) ≡ n = length-take n t ∙ omega arith in
-    short-table (take n t) ∙ rw (lines-cut n t, l) (by (endsAt t n) refl)
+    short-text continues (take n t) ∙ rw (lines-cut continues n t, l) (by (endsAt continues t n) refl)
   where
-    by : (x : Bool) → endsAt t n ≡ x → ltb (lastEnd 0 (notAbove n (linesOf t))) n ≡ not x
-    by true x = let z = ends-at n t x in le-ltb _ n (omega arith)
-    by false x = lt-ltb _ n (ends-not-at n t x)
+    by : (x : Bool) → endsAt continues t n ≡ x → ltb (lastEnd 0 (notAbove n (linesOf continues t))) n ≡ not x
+    by true x = let z = ends-at n continues t x in le-ltb _ n (omega arith)
+    by false x = lt-ltb _ n (ends-not-at n continues t x)

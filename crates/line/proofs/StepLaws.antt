@@ -1,6 +1,6 @@
--- A fold over the control lines of a table, line by line from a place on: for callers that read the lines one after the other.
+-- A fold over the lines of a text, line by line from a place on: for callers that read the lines one after the other.
 use mathlib.Core.Path.{_≡_}
-use mathlib.Core.Bool.{not}
+use mathlib.Core.Bool.{Bool, not}
 use mathlib.Core.List.{List, []}
 use mathlib.Core.Option.{Option}
 use Prim.Native.Nat.{ℕ, _+_, _-_, _≤_, _<_}
@@ -11,23 +11,23 @@ use Rattle.fault.specs.Fault.{Reading, fault, value, andThen, require}
 use Rattle.line.specs.Line.{Line, line, endedLines, placed, lastEnd}
 use Rattle.line.specs.Fold.{Refusal, faulty, cut, run, outcome}
 use Rattle.line.specs.Contract.{linesFrom, LineEnds}
-use Rattle.line.proofs.LineLaws.{short-table}
+use Rattle.line.proofs.LineLaws.{short-text}
 
--- the control line that begins at a place, ends at e and has this number
+-- the line that begins at a place, ends at e and has this number
 abbrev pub lineAt : List ℕ → ℕ → ℕ → ℕ → Line
 lineAt t at e number = line at e number (take (e - 1 - at) (drop at t))
 
-module _ {F S D : Type 0} (step : S → Line → Reading F S) (decision : S → Option D) (t : List ℕ) where
+module _ {F S D : Type 0} (continues : ℕ → Bool) (step : S → Line → Reading F S) (decision : S → Option D) (t : List ℕ) where
   -- what the lines from a place on give, where s is the state there
   unfoldable pub outcomeFrom : ℕ → ℕ → S → Reading (Refusal F) (Option D)
   outcomeFrom at number s =
-      andThen (run step (linesFrom t at number) s) (λ last.
-      require (not (ltb (lastEnd at (linesFrom t at number)) (length t))) (cut (lastEnd at (linesFrom t at number)))
+      andThen (run step (linesFrom continues t at number) s) (λ last.
+      require (not (ltb (lastEnd at (linesFrom continues t at number)) (length t))) (cut (lastEnd at (linesFrom continues t at number)))
       (value (decision last)))
 
-  pub from-start : (s : S) → outcomeFrom 0 1 s ≡ outcome step decision s t
+  pub from-start : (s : S) → outcomeFrom 0 1 s ≡ outcome continues step decision s t
   unfolding outcomeFrom outcome
-  from-start s = rw (short-table t)
+  from-start s = rw (short-text continues t)
 
   module _ (at number : ℕ) (s : S) where
     -- no line is left
@@ -36,11 +36,11 @@ module _ {F S D : Type 0} (step : S → Line → Reading F S) (decision : S → 
     from-end h = rw (drop-of-length-le t h, le-ltb at (length t) h)
 
     -- a line is left that does not end
-    pub from-cut : at < length t → linesFrom t at number ≡ [] → outcomeFrom at number s ≡ fault (cut at)
+    pub from-cut : at < length t → linesFrom continues t at number ≡ [] → outcomeFrom at number s ≡ fault (cut at)
     unfolding outcomeFrom run
     from-cut h e = rw (e, lt-ltb at (length t) h)
 
-    module _ {e count : ℕ} (l : LineEnds t at e count) where
+    module _ {e count : ℕ} (l : LineEnds continues t at e count) where
       -- a line that has a fault
       pub from-fault : {c : F} → step s (lineAt t at e number) ≡ fault c → outcomeFrom at number s ≡ fault (faulty c at)
       unfolding outcomeFrom run

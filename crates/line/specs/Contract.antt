@@ -25,7 +25,7 @@ use Rattle.line.specs.declared.run.Run.the-variants.{Blanks, Plain}
 use Rattle.line.specs.declared.scan.ScannedLine.{ScannedLine}
 use Rattle.line.specs.declared.scan.ScannedLine.the-variants.{Good, Fault}
 use Rattle.line.specs.declared.scanner.Scanner.{Scanner}
-use Rattle.line.specs.Line.{Line, line, newlines, placed, endedLines}
+use Rattle.line.specs.Line.{Line, line, backslash, newlines, placed, endedLines}
 use Rattle.line.specs.Joined.{Mode, inFields, inComment, JoinedByte, kept, between, joins, joinedFrom, joinedLine, indented}
 use Rattle.line.specs.Scan.{mostFields, fieldsOf, quotingAtEnd, scanned}
 
@@ -41,23 +41,23 @@ pub record Reaches (c : ℕ) (t : List ℕ) (i r : ℕ) : Type 0 where
   pub stops : r < length t → getD t r 0 ≡ c
   pub none : (j : ℕ) → i ≤ j → j < r → getD t j 0 ≡ c → ⊥
 
--- the control lines from a place on where one begins, the first of them with this number; from 0 and 1 on they are `linesOf`
-abbrev pub linesFrom : List ℕ → ℕ → ℕ → List Line
-linesFrom t at number = placed at number (endedLines false (drop at t))
+-- the lines from a place on where one begins, the first of them with this number; from 0 and 1 on they are `linesOf`
+abbrev pub linesFrom : (ℕ → Bool) → List ℕ → ℕ → ℕ → List Line
+linesFrom continues t at number = placed at number (endedLines continues false (drop at t))
 
--- the control line that begins at a place ends at e and has `count` physical lines, one for each of its newlines, whatever its number
-pub record LineEnds (t : List ℕ) (at e count : ℕ) : Type 0 where
+-- the line that begins at a place ends at e and has `count` physical lines, one for each of its newlines, whatever its number
+pub record LineEnds (continues : ℕ → Bool) (t : List ℕ) (at e count : ℕ) : Type 0 where
   pub low : at < e
   pub high : e ≤ length t
   pub some : 0 < count
   pub few : at + count ≤ e
   pub counts : count ≡ newlines (take (e - at) (drop at t))
-  pub reads : (number : ℕ) → linesFrom t at number ≡ line at e number (take (e - 1 - at) (drop at t)) ∷ linesFrom t e (number + count)
+  pub reads : (number : ℕ) → linesFrom continues t at number ≡ line at e number (take (e - 1 - at) (drop at t)) ∷ linesFrom continues t e (number + count)
 
 -- where the control line that begins at a place ends, or that there is none that ends
 abbrev pub Ends : List ℕ → ℕ → End → Type 0
-Ends t at (At e count) = LineEnds t at e count
-Ends t at Cut = (number : ℕ) → linesFrom t at number ≡ []
+Ends t at (At e count) = LineEnds backslash t at e count
+Ends t at Cut = (number : ℕ) → linesFrom backslash t at number ≡ []
 
 -- ---- the line
 abbrev pub modeOf : ScanMode → Mode

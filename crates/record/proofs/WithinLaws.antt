@@ -15,7 +15,7 @@ use Rattle.text.proofs.Laws.{clash}
 use Rattle.fault.specs.declared.Cause.{Cause}
 use Rattle.fault.specs.Fault.{Reading, fault, value, andThen, require}
 use Rattle.fault.proofs.Readings.{Each}
-use Rattle.line.specs.Line.{Line, placed, endedLines, newlines, linesOf, notAbove, lastEnd, cutShort}
+use Rattle.line.specs.Line.{Line, backslash, placed, endedLines, newlines, linesOf, notAbove, lastEnd, cutShort}
 use Rattle.line.specs.Fold.{Refusal, faulty, cut, located, run, outcome}
 use Rattle.line.specs.Refused.{accepted, refusedFrom, refusedByte}
 use Rattle.line.proofs.LineLaws.{lines-cut}
@@ -66,10 +66,10 @@ ends-within n (l ∷ ls) h = by (leb (l .end) n) refl (ends-within n ls (h .1))
     by true e k = let m = leb-true (l .end) n e in (record { begin = omega (arith, h .0 .0); number = omega (arith, h .0 .1); end = m }, k)
     by false e k = k
 
-lines-within : (t : List ℕ) → Each (LineWithin (length t)) (linesOf t)
+lines-within : (t : List ℕ) → Each (LineWithin (length t)) (linesOf backslash t)
 lines-within t =
-    let e : linesOf t ≡ notAbove (length t) (linesOf t) = sym (ap linesOf (take-all (length t) t (omega arith))) ∙ lines-cut (length t) t in
-    rw e (ends-within (length t) (linesOf t) (numbered 0 1 (endedLines false t) (omega arith)))
+    let e : linesOf backslash t ≡ notAbove (length t) (linesOf backslash t) = sym (ap (linesOf backslash) (take-all (length t) t (omega arith))) ∙ lines-cut backslash (length t) t in
+    rw e (ends-within (length t) (linesOf backslash t) (numbered 0 1 (endedLines backslash false t) (omega arith)))
 
 last-within : (n b : ℕ) (ls : List Line) → b ≤ n → Each (LineWithin n) ls → lastEnd b ls ≤ n
 last-within n b [] h k = h
@@ -135,15 +135,15 @@ Give n (value o) = ShortDecision o × DecidedWithin n o
 
 lines-give : (q : Question) (t : List ℕ) → Give (length t) (linesGive q t)
 unfolding outcome
-lines-give q t = by (run (lineRead q) (linesOf t) start) (run-within (length t) q (linesOf t) start (lines-within t) (held-start (length t)))
+lines-give q t = by (run (lineRead q) (linesOf backslash t) start) (run-within (length t) q (linesOf backslash t) start (lines-within t) (held-start (length t)))
   where
-    last : (x : Bool) (s : State) → Held (length t) s → Give (length t) (require x (cut (lastEnd 0 (linesOf t))) (value (s .decision)))
+    last : (x : Bool) (s : State) → Held (length t) s → Give (length t) (require x (cut (lastEnd 0 (linesOf backslash t))) (value (s .decision)))
     last true s h = (h .short .decision, h .line)
-    last false s h = last-within (length t) 0 (linesOf t) (omega arith) (lines-within t)
+    last false s h = last-within (length t) 0 (linesOf backslash t) (omega arith) (lines-within t)
 
-    by : (r : Reading (Refusal Cause) State) → Run (length t) r → Give (length t) (andThen r (λ s. require (not (cutShort t)) (cut (lastEnd 0 (linesOf t))) (value (s .decision))))
+    by : (r : Reading (Refusal Cause) State) → Run (length t) r → Give (length t) (andThen r (λ s. require (not (cutShort backslash t)) (cut (lastEnd 0 (linesOf backslash t))) (value (s .decision))))
     by (fault r) h = h
-    by (value s) h = last (not (cutShort t)) s h
+    by (value s) h = last (not (cutShort backslash t)) s h
 
 -- ---- the answer
 -- a permit tells a line and the five ends

@@ -53,16 +53,17 @@ pub fn nanoseconds(questions: &[Asked]) -> Vec<f64> {
         for (asked, best) in questions.iter().zip(&mut best) {
             let mut buffer = asked.buffer.clone();
             let mut report = asked.report.clone();
-            let time = one_time(asked, || call(black_box(asked), &mut buffer, &mut report));
+            let bytes = asked.table.len();
+            let time = one_time(bytes, || call(black_box(asked), &mut buffer, &mut report));
             *best = best.min(time);
         }
     }
     best
 }
 
-/// The time of what reads the table, in nanoseconds; it is done over and over.
-fn one_time<T>(asked: &Asked, mut read: impl FnMut() -> T) -> f64 {
-    let rounds = BYTES.div_ceil(asked.table.len());
+/// The time of what reads so many bytes, in nanoseconds; it is done over and over.
+pub fn one_time<T>(bytes: usize, mut read: impl FnMut() -> T) -> f64 {
+    let rounds = BYTES.div_ceil(bytes);
     let begin = Instant::now();
     for _ in 0..rounds {
         black_box(read());
@@ -115,14 +116,14 @@ fn timed(asked: &Asked) -> (f64, f64) {
     };
     let mut buffer = asked.buffer.clone();
     let mut report = asked.report.clone();
-    let bytes = asked.table.len() as f64;
+    let bytes = asked.table.len();
     let mut best = (f64::INFINITY, f64::INFINITY);
     for _ in 0..TRIES {
-        let called = one_time(asked, || call(black_box(asked), &mut buffer, &mut report));
-        best.0 = best.0.min(called / bytes);
+        let called = one_time(bytes, || call(black_box(asked), &mut buffer, &mut report));
+        best.0 = best.0.min(called / bytes as f64);
         let table = black_box(&asked.table);
-        let answered = one_time(asked, || answer::answer(table, &question, &mut buffer));
-        best.1 = best.1.min(answered / bytes);
+        let answered = one_time(bytes, || answer::answer(table, &question, &mut buffer));
+        best.1 = best.1.min(answered / bytes as f64);
     }
     best
 }

@@ -113,11 +113,11 @@ fn asked(random: &mut Random) -> Asked {
     };
     // Most questions stay good, so that the table is read at all.
     match random.below(60) {
-        0 => damage(random, &mut asked.command),
-        1 => damage(random, &mut asked.user),
-        2 => damage(random, &mut groups),
-        3 => damage(random, &mut asked.host),
-        4 => damage(random, &mut arguments),
+        0 => damage(random, MARKS, &mut asked.command),
+        1 => damage(random, MARKS, &mut asked.user),
+        2 => damage(random, MARKS, &mut groups),
+        3 => damage(random, MARKS, &mut asked.host),
+        4 => damage(random, MARKS, &mut arguments),
         5 => asked.minute = random.number(),
         6 => asked.age = random.number() as i32,
         7 => {
@@ -152,7 +152,7 @@ fn table(random: &mut Random, question: &Question) -> Vec<u8> {
         0..=8 => Grammar { random, question }.table(),
         9..=15 => {
             let mut table = Grammar { random, question }.table();
-            damage(random, &mut table);
+            damage(random, MARKS, &mut table);
             table
         }
         16 => {
@@ -172,15 +172,16 @@ fn table(random: &mut Random, question: &Question) -> Vec<u8> {
     }
 }
 
-fn any_bytes(random: &mut Random, most: usize) -> Vec<u8> {
+/// Any bytes, fewer than so many.
+pub fn any_bytes(random: &mut Random, most: usize) -> Vec<u8> {
     (0..random.below(most)).map(|_| random.byte()).collect()
 }
 
-/// Some bytes changed, put in, taken out, doubled, or the rest cut off.
-fn damage(random: &mut Random, bytes: &mut Vec<u8>) {
+/// Some bytes changed, put in, taken out, doubled, or the rest cut off; most new ones are marks.
+pub fn damage(random: &mut Random, marks: &[u8], bytes: &mut Vec<u8>) {
     for _ in 0..1 + random.below(4) {
         let place = random.below(bytes.len() + 1);
-        let byte = if random.one_in(8) { random.byte() } else { MARKS[random.below(MARKS.len())] };
+        let byte = if random.one_in(8) { random.byte() } else { marks[random.below(marks.len())] };
         match random.below(12) {
             0 => bytes.truncate(place),
             1..=4 if place < bytes.len() => bytes[place] = byte,

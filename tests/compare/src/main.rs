@@ -19,6 +19,11 @@ mod record_call;
 mod record_random;
 mod records;
 mod stars;
+mod suauth_call;
+mod suauth_cuts;
+mod suauth_files;
+mod suauth_random;
+mod suauth_times;
 mod tables;
 
 use std::fs;
@@ -26,7 +31,7 @@ use std::io::{self, BufRead, BufWriter, Write};
 use std::path::Path;
 use std::process::ExitCode;
 
-use rule_table::{cases, figures_cases, record_cases};
+use rule_table::{cases, figures_cases, record_cases, suauth_cases};
 
 use call::{difference, Asked, Caller};
 use record_call::{Reading, Writing};
@@ -51,10 +56,17 @@ const USAGE: &str = "usage: compare --cases < cases
        compare --batches ROUNDS SEED
            compare them on batches of log records: every length, every number at its bounds, the
            limit, a million records divided in several ways, then random series of batches
+       compare --suauth < cases
+           print the call's answer to the su file and the question of each case line
+       compare --su-files ROUNDS SEED
+           compare them on random su files and questions, some with random bytes in every
+           argument, and try every cut of each file that gives a decision (a few of a long one)
        compare --bench [TABLE]
-           time them on the tables, or on those of one name; on all, also as the next two
+           time them on the tables, or on those of one name; on all, also as the next three
        compare --bench figures
            time them on a million log records, in batches of several sizes
+       compare --bench suauth
+           time them on su files of short lines, of one long list and of one long GROUP list
        compare --bench stars
            time the call on patterns with many stars, and hold it to the limits of request (iii)
        compare --call TABLE ROUNDS
@@ -71,6 +83,7 @@ fn main() -> ExitCode {
         ["--record-write"] => write_records().map(|()| true),
         ["--record-read"] => read_records().map(|()| true),
         ["--figures"] => figures().map(|()| true),
+        ["--suauth"] => answer_su_cases().map(|()| true),
         ["--check"] => check_cases(u64::MAX),
         ["--check", tables] => match tables.parse() {
             Ok(tables) => check_cases(tables),
@@ -92,10 +105,15 @@ fn main() -> ExitCode {
             (Ok(rounds), Ok(seed)) => Ok(counted(batches::run(rounds, seed))),
             _ => return wrong_use(),
         },
+        ["--su-files", rounds, seed] => match (rounds.parse(), seed.parse()) {
+            (Ok(rounds), Ok(seed)) => Ok(counted(suauth_files::run(rounds, seed))),
+            _ => return wrong_use(),
+        },
         ["--bench", "figures"] => Ok(figures_times::run() == 0),
+        ["--bench", "suauth"] => Ok(suauth_times::run() == 0),
         ["--bench", "stars"] => Ok(counted(stars::times())),
         ["--bench"] => {
-            let wrong = bench::run(None) + figures_times::run();
+            let wrong = bench::run(None) + figures_times::run() + suauth_times::run();
             Ok(counted(stars::times()) && wrong == 0)
         }
         ["--bench", name] => Ok(bench::run(Some(name)) == 0),
@@ -185,6 +203,15 @@ fn figures() -> io::Result<()> {
     reply_to_cases(|line| {
         let batches = figures_cases::read_batches(line)?;
         Some(caller.answered(&batches).unwrap_or_else(|wrong| wrong))
+    })
+}
+
+fn answer_su_cases() -> io::Result<()> {
+    let mut caller = suauth_call::Caller::new();
+    reply_to_cases(|line| {
+        let (file, question) = suauth_cases::read_case(line)?;
+        let got = caller.call(&suauth_call::Asked::of_case(file, &question));
+        Some(got.map_or_else(|wrong| wrong, |got| got.printed()))
     })
 }
 

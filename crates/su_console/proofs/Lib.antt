@@ -1,0 +1,4 @@
+pub mod PieceLaws
+pub mod PrintLaws
+pub mod RespondLaws
+pub mod ExplainLaws

@@ -1,0 +1,34 @@
+use borrow.Author.Needs.{needs}
+use Rattle.su_console.specs.Printed.{actionText}
+use Rattle.su_console.proofs.print.put_action.Statement.{statement}
+use Rattle.su_console.proofs.print.put_action.Tie as tie
+
+put-all-requires : tie.Need-put-all-requires
+put-all-requires c κs = search needs
+
+then-decimal-requires : tie.Need-then-decimal-requires
+then-decimal-requires c κs = search needs
+
+slice-aggregate-then-all : tie.Need-slice-aggregate-then-all
+slice-aggregate-then-all c = search needs
+
+then-all-requires : tie.Need-then-all-requires
+then-all-requires c κs = search needs
+
+same-length : tie.Need-same-length
+same-length c = search needs
+
+returns : tie.Need-returns
+unfolding actionText
+returns c = c .before .before .then-all .ensures .behind _ _ _ (c .before .before .before .before .before .before .before .then-decimal .ensures .behind _ _ _ (c .before .before .before .before .before .before .before .before .before .before .before .put-all .ensures))
+
+pub put-action-spec : {M : Type 1} → statement M
+put-action-spec =
+    tie.close
+    (tie.spec
+    put-all-requires
+    then-decimal-requires
+    slice-aggregate-then-all
+    then-all-requires
+    same-length
+    returns)

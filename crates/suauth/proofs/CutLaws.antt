@@ -1,0 +1,123 @@
+-- Demand 3: a cut file answers what the whole one says, "no rule", or 13 where the cut line begins. And a refusal depends on no question. Assumes nothing.
+use mathlib.Core.Path.{_≡_, refl, sym, ap, _∙_}
+use mathlib.Core.Bool.{Bool, true, false, cond}
+use mathlib.Core.List.{List}
+use mathlib.Core.Option.{Option, none, some, bind, orElse}
+use Prim.Native.Nat.{ℕ, _≤_}
+use native.Mathlib.Omega.{arith}
+use borrow.Author.Tests.{le-leb, leb-true}
+use lib.Dec.{leb}
+use lib.ListN.{length, take, length-take}
+use Rattle.text.proofs.Laws.{clash}
+use Rattle.fault.specs.Fault.{Reading, fault, value}
+use Rattle.fault.proofs.Readings.{and-then, same-value}
+use Rattle.line.specs.Line.{Line, noByte}
+use Rattle.line.specs.Fold.{Refusal, faulty, cut}
+use Rattle.line.specs.Refused.{refusedByte}
+use Rattle.line.proofs.FoldLaws.{Decides, cuts-told}
+use Rattle.line.proofs.RefusedLaws.{clean-cut}
+use Rattle.suauth.specs.declared.Action.{Action}
+use Rattle.suauth.specs.declared.Action.the-variants.{Deny, NoPassword, OwnPassword}
+use Rattle.suauth.specs.declared.SuAnswer.{SuAnswer}
+use Rattle.suauth.specs.declared.SuAnswer.the-variants.{LongFile}
+use Rattle.suauth.specs.Rule.{Rule, Malformed, ruleIn}
+use Rattle.suauth.specs.Answer.{fileLimit, toldOf, isDecision, saysNoRule, lineTold}
+use Rattle.suauth.specs.Meaning.{Question, Asked, questionOf, applies, Decision, decidedBy, lineRead, linesGive, actionBy, settled, readBytes, readFile, answerOf}
+use Rattle.suauth.specs.Cut.{nothingYet, cutAnswer, CutSafe}
+use Rattle.suauth.specs.Contract.{WholeOf, CutOf}
+
+-- ---- a decision stays, and is made at the line whose number it has
+module _ (q : Question) where
+  -- a line that is read leaves what was decided, or decides by its own rule
+  read-by : (d d′ : Option Decision) (l : Line) → lineRead q d l ≡ value d′ → (r : Option Rule) × (orElse d (bind r (decidedBy q (l .number))) ≡ d′)
+  unfolding lineRead
+  read-by d d′ l e = let x = and-then (ruleIn (l .bytes)) _ d′ e in (x .0, same-value (x .2))
+
+  own-line : (n : ℕ) (r : Option Rule) (d : Decision) → bind r (decidedBy q n) ≡ some d → d .line ≡ n
+  unfolding bind
+  own-line n none d e = clash cc
+  own-line n (some r) d e = by (applies q r) e
+    where
+      by : (x : Bool) → cond x (some (record { line = n; action = r .action })) none ≡ some d → d .line ≡ n
+      by true f = let z : record { line = n; action = r .action } ≡ d = cc in sym (ap (λ y. y .line) z)
+      by false f = clash cc
+
+  once : Decides (lineRead q) (λ d. d) (λ d. d .line)
+  unfolding orElse
+  once = record {
+    keeps = λ d d′ l m e f. let x = read-by d d′ l f in sym (x .1) ∙ ap (λ o. orElse o (bind (x .0) (decidedBy q (l .number)))) e;
+    fresh = λ d d′ l m e f g. let x = read-by d d′ l f in own-line (l .number) (x .0) m (sym (ap (λ o. orElse o (bind (x .0) (decidedBy q (l .number)))) e) ∙ x .1 ∙ g);
+  }
+
+-- ---- where a file gives a decision, every check before the lines has passed
+no-decision : {A : Type 0} → false ≡ true → A
+no-decision e = clash cc
+
+record Asks (t : List ℕ) (a : Asked) : Type 0 where
+  question : Question
+  good : questionOf a ≡ some question
+  size : leb (length t) fileLimit ≡ true
+  bytes : refusedByte t ≡ none
+
+asked : (t : List ℕ) (a : Asked) → isDecision (answerOf t a) ≡ true → Asks t a
+unfolding answerOf isDecision toldOf
+asked t a e = good (questionOf a) refl e
+  where
+    bytes : (q : Question) → questionOf a ≡ some q → leb (length t) fileLimit ≡ true → (p : Option ℕ) → refusedByte t ≡ p → isDecision (readBytes t q p) ≡ true → Asks t a
+    bytes q g s none h f = record { question = q; good = g; size = s; bytes = h }
+    bytes q g s (some p) h f = no-decision f
+
+    size : (q : Question) → questionOf a ≡ some q → (x : Bool) → leb (length t) fileLimit ≡ x → isDecision (cond x (readBytes t q (refusedByte t)) LongFile) ≡ true → Asks t a
+    size q g true h f = bytes q g h (refusedByte t) refl f
+    size q g false h f = no-decision f
+
+    good : (o : Option Question) → questionOf a ≡ o → isDecision (readFile t o) ≡ true → Asks t a
+    good none h f = no-decision f
+    good (some q) h f = size q h (leb (length t) fileLimit) refl f
+
+-- then the answer is what the lines give
+read : {t : List ℕ} {a : Asked} (w : Asks t a) → answerOf t a ≡ settled (linesGive (w .question) t)
+unfolding answerOf
+read {t} {a} w = rw (w .good, w .size, w .bytes)
+
+cut-asks : (n : ℕ) {t : List ℕ} {a : Asked} → Asks t a → Asks (take n t) a
+cut-asks n {t} {a} w =
+    let h = leb-true (length t) fileLimit (w .size) in
+    let k : length (take n t) ≤ fileLimit = omega (arith, length-take n t) in
+    record { question = w .question; good = w .good; size = le-leb _ _ k; bytes = clean-cut n t (w .bytes) }
+
+-- ---- what a decision tells
+says-rule : (a : Action) (l : ℕ) → saysNoRule (toldOf (actionBy a l)) ≡ false
+unfolding toldOf
+says-rule Deny l = refl
+says-rule NoPassword l = refl
+says-rule OwnPassword l = refl
+
+says-line : (a : Action) (l : ℕ) → lineTold (toldOf (actionBy a l)) ≡ l
+unfolding toldOf
+says-line Deny l = refl
+says-line NoPassword l = refl
+says-line OwnPassword l = refl
+
+-- ---- the cut file, by what the whole one gives
+cut-gives : (t : List ℕ) (n : ℕ) (q : Question) → n ≤ length t → (r : Reading (Refusal Malformed) (Option Decision)) → linesGive q t ≡ r → isDecision (settled r) ≡ true → settled (linesGive q (take n t)) ≡ cutAnswer t n (settled r)
+unfolding cutAnswer nothingYet isDecision toldOf
+cut-gives t n q l (fault (faulty m p)) e f = no-decision f
+cut-gives t n q l (fault (cut p)) e f = no-decision f
+cut-gives t n q l (value o) e f =
+    cuts-told (lineRead q) (λ d. d) (λ d. d .line) (once q) settled (λ w. saysNoRule (toldOf w)) (λ w. lineTold (toldOf w)) (λ d. says-rule (d .action) (d .line)) (λ d. says-line (d .action) (d .line)) noByte none refl t n l o e
+
+-- for all files, questions and cuts at once
+pub cut-safe : CutSafe
+unfolding cut-asks
+cut-safe t a n l f =
+    let w = asked t a f in
+    read (cut-asks n w) ∙ cut-gives t n (w .question) l (linesGive (w .question) t) refl (rw (read w) at f) ∙ ap (cutAnswer t n) (sym (read w))
+
+-- so an answer that is the definition's is right as the whole one and as a cut one
+pub promised : (t : List ℕ) (a : Asked) (r : SuAnswer) → r ≡ answerOf t a → (r ≡ answerOf t a) × WholeOf t a r × CutOf t a r
+promised t a r e = (
+  e,
+  λ n l f. rw e (cut-safe t a n l (ap isDecision (sym e) ∙ f)),
+  λ w n l h f. e ∙ ap (λ s. answerOf s a) (sym h) ∙ cut-safe w a n l f,
+)
