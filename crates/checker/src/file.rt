@@ -1,8 +1,10 @@
 // The bytes of a table or another file of its size, whole.
+use libc::STDIN_FILENO;
 use streams::input::Loaded;
 use streams::input::load_name;
 use streams::input::read_all;
 use streams::message;
+use text::slice::equal;
 ghost use mathlib.Core.Path.{_≡_};
 ghost use lib.ListN.{length};
 ghost use Rattle.streams.specs.Contract.{LoadedIn};
@@ -39,6 +41,16 @@ pub fn load_file(name: &[u8], out: &mut [u8]) -> Loaded
     let loaded = load_from(fd, name, out);
     libc::close(fd);
     loaded
+}
+
+// The bytes of the file of this name, `-` for standard input; a failure is told.
+pub fn load_named(name: &[u8], out: &mut [u8]) -> Loaded
+    ensures { λ r. ⌜ LoadedIn (now (out .exit)) r ⌝ }
+{
+    if equal(name, b"-") {
+        return load_from(STDIN_FILENO, b"standard input", out);
+    }
+    load_file(name, out)
 }
 
 // The bytes of the file that an argument names; a failure is told, that of the name by what it is the name of.

@@ -7,18 +7,24 @@ pub enum Request {
     Answer(usize),
     // The same, with a log of the answers; the argument that names the log, and the one that names the table.
     AnswerWithLog(usize, usize),
+    // To answer questions from the su file that this argument names.
+    AnswerSu(usize),
     // To print what is asked of the log that this argument names.
     ReadLog(LogView, usize),
     // To check the table that this argument names.
     Check(usize),
     // The same, with the question in the argument behind it.
     CheckWith(usize),
+    // To check the su file that this argument names.
+    CheckSu(usize),
     Help,
     Version,
     // Wrong uses, the last two with the argument that is wrong.
     NoTable,
+    NoSuFile,
     NoLog,
     TableFromInput,
+    SuFileFromInput,
     LogToOutput,
     UnknownOption(usize),
     Surplus(usize),
@@ -56,13 +62,36 @@ fn check_at(i: usize) -> Request {
     }
 }
 
+// What stands behind --check --su.
+fn check_su_request() -> Request {
+    match word_at(3) {
+        Word::EndOfOptions => last(4, Request::CheckSu(4), Request::NoSuFile),
+        Word::Dash => last(3, Request::CheckSu(3), Request::NoSuFile),
+        Word::Operand => last(3, Request::CheckSu(3), Request::NoSuFile),
+        Word::Missing => Request::NoSuFile,
+        _ => Request::UnknownOption(3),
+    }
+}
+
 // What stands behind --check.
 fn check_request() -> Request {
     match word_at(2) {
+        Word::Su => check_su_request(),
         Word::EndOfOptions => check_at(3),
         Word::Dash => check_at(2),
         Word::Operand => check_at(2),
         Word::Missing => Request::NoTable,
+        _ => Request::UnknownOption(2),
+    }
+}
+
+// What stands behind --su.
+fn su_request() -> Request {
+    match word_at(2) {
+        Word::EndOfOptions => last(3, Request::AnswerSu(3), Request::NoSuFile),
+        Word::Dash => Request::SuFileFromInput,
+        Word::Operand => last(2, Request::AnswerSu(2), Request::NoSuFile),
+        Word::Missing => Request::NoSuFile,
         _ => Request::UnknownOption(2),
     }
 }
@@ -102,6 +131,7 @@ fn read_log_request(view: LogView) -> Request {
 pub fn requested() -> Request {
     match word_at(1) {
         Word::Check => check_request(),
+        Word::Su => su_request(),
         Word::Log => with_log(),
         Word::ReadLog => read_log_request(LogView::Records),
         Word::Figures => read_log_request(LogView::Figures),

@@ -3,6 +3,7 @@ use text::slice::equal;
 
 pub enum Word {
     Check,
+    Su,
     Log,
     ReadLog,
     Figures,
@@ -33,6 +34,9 @@ fn word_of(text: &[u8]) -> Word {
     }
     if equal(text, b"--check") {
         return Word::Check;
+    }
+    if equal(text, b"--su") {
+        return Word::Su;
     }
     if equal(text, b"--log") {
         return Word::Log;

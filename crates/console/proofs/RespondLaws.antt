@@ -95,4 +95,4 @@ module _ (table line : List ℕ) {old new : List ℕ} {u : Told} {r : Filled} (w
   response-fits f = fits wrote-response (omega (arith, response-length table line)) f
 
   pub responded : {n k : ℕ} (oldLog newLog : List ℕ) → r ≡ Done n → (k ≡ length (recordWithin (length oldLog) (logged table line))) × (newLog ≡ laid oldLog 0 (recordWithin (length oldLog) (logged table line))) → Responds table line old new oldLog newLog (Written n k)
-  responded oldLog newLog f l = let d = wrote-done wrote-response f in (h, omega (arith, d .1), wrote-response .bytes, l .0, l .1)
+  responded oldLog newLog f l = let d = wrote-done wrote-response f in (h, response-length table line, omega (arith, d .1), wrote-response .bytes, l .0, l .1)

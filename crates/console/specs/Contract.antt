@@ -140,11 +140,11 @@ pub record Answers (table line old new : List ℕ) (r : Answered) : Type 0 where
   pub outcome : result (r .answer) new ≡ outcomeFor table (askedIn line) old
   pub asked : (a : Asked) → askedIn line ≡ some a → (r .minute ≡ a .minute) × (r .last ≡ a .age)
 
--- the text stands at the buffer's beginning and later bytes stay, and the record in its own bytes; or the buffer is too small and all stays
+-- the text, which is never longer than the least room, stands at the buffer's beginning and later bytes stay, and the record in its own bytes; or the buffer is too small and all stays
 abbrev pub Writes : (text recorded old new oldRecord newRecord : List ℕ) → Response → Type 0
 Writes text recorded old new oldRecord newRecord SmallRoom = (length old < leastRoom) × (new ≡ old) × (newRecord ≡ oldRecord)
 Writes text recorded old new oldRecord newRecord (Written n k) =
-    (leastRoom ≤ length old) × (n ≡ length text) × (new ≡ laid old 0 text)
+    (leastRoom ≤ length old) × (length text ≤ leastRoom) × (n ≡ length text) × (new ≡ laid old 0 text)
     × (k ≡ length (recordWithin (length oldRecord) recorded)) × (newRecord ≡ laid oldRecord 0 (recordWithin (length oldRecord) recorded))
 
 -- a line was answered from a table: the response, and the record of it

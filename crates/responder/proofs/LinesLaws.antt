@@ -68,14 +68,13 @@ module _ (text recorded old new oldLog newLog : List ℕ) {r : Response} {n k : 
   told : Writes text recorded old new oldLog newLog (Written n k)
   told = subst (Writes text recorded old new oldLog newLog) e h
 
-  module _ (short : length text ≤ 2048) where
-    -- a response has no more bytes than the room that is made for it
-    pub response-room : n ≤ 2048
-    response-room = omega (arith, told .1)
+  -- a response has no more bytes than the room that is made for it
+  pub response-room : n ≤ 2048
+  response-room = omega (arith, told .1, told .2)
 
-    -- the response stands behind what was there in front of its part of the buffer
-    pub response-behind : (out rest : List ℕ) (a : ℕ) → a ≤ length out → take (a + n) (take a out ++ (new ++ rest)) ≡ take a out ++ text
-    response-behind = laid-behind old new text n (told .2) (told .1) (omega (arith, told .0))
+  -- the response stands behind what was there in front of its part of the buffer
+  pub response-behind : (out rest : List ℕ) (a : ℕ) → a ≤ length out → take (a + n) (take a out ++ (new ++ rest)) ≡ take a out ++ text
+  response-behind = laid-behind old new text n (told .3) (told .2) (omega (arith, told .0, told .1))
 
   module _ (short : length recorded ≤ 8) (on : Bool) (q : length oldLog ≡ cond on 8 0) where
     lent : length (recordWithin (length oldLog) recorded) ≤ length oldLog
@@ -83,11 +82,11 @@ module _ (text recorded old new oldLog newLog : List ℕ) {r : Response} {n k : 
 
     -- a record has no more bytes than were lent for it
     pub record-room : k ≤ length oldLog
-    record-room = omega (arith, told .3, lent)
+    record-room = omega (arith, told .4, lent)
 
     -- the record stands behind those that wait
     pub record-behind : (out rest : List ℕ) (a : ℕ) → a ≤ length out → take (a + k) (take a out ++ (newLog ++ rest)) ≡ take a out ++ cond on recorded []
-    record-behind out rest a j = laid-behind oldLog newLog (recordWithin (length oldLog) recorded) k (told .4) (told .3) lent out rest a j ∙ ap (λ (m : List ℕ). take a out ++ m) (within-is (length oldLog) on recorded q)
+    record-behind out rest a j = laid-behind oldLog newLog (recordWithin (length oldLog) recorded) k (told .5) (told .4) lent out rest a j ∙ ap (λ (m : List ℕ). take a out ++ m) (within-is (length oldLog) on recorded q)
 
 -- only a buffer without that room is too small
 pub small-buffer : (text recorded old new oldLog newLog : List ℕ) {r : Response} → Writes text recorded old new oldLog newLog r → r ≡ SmallBuffer → length old < 2048

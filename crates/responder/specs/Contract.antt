@@ -6,19 +6,22 @@ use mathlib.Core.Logic.{_⊎_}
 use Prim.Native.Nat.{ℕ, _≤_}
 use lib.ListN.{length, take}
 use Rattle.console.specs.Console.{response, logged}
+use Rattle.su_console.specs.Response.{suResponse}
 use Rattle.responder.specs.declared.source.Source.{Source}
-use Rattle.responder.specs.declared.source.Source.the-variants.{Table}
+use Rattle.responder.specs.declared.source.Source.the-variants.{Table, SuFile}
 use Rattle.responder.specs.declared.lines.Progress.{Progress}
 
 -- what is printed for a line without its newline, from a file of this kind
 unfoldable pub responseFrom : Source → (file line : List ℕ) → List ℕ
-unfolding response
+unfolding response suResponse
 responseFrom Table file line = response file line
+responseFrom SuFile file line = suResponse file line
 
--- what a log gets for it
+-- what a log gets for it: nothing where it is a su file
 unfoldable pub loggedFrom : Source → (file line : List ℕ) → List ℕ
 unfolding logged
 loggedFrom Table file line = logged file line
+loggedFrom SuFile file line = []
 
 -- the answers and the records that wait are in their buffers, which hold one more of each at least
 abbrev pub Held : (out records : ℕ) → Progress → Type 0

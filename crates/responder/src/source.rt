@@ -1,12 +1,14 @@
 // What question lines are answered from.
 use console::respond::Response;
 use console::respond::respond;
+use su_console::respond::respond_su;
 ghost use Rattle.console.specs.Contract.{Writes};
 ghost use Rattle.responder.specs.Contract.{responseFrom, loggedFrom};
 
 // The kind of a file.
 pub enum Source {
     Table,
+    SuFile,
 }
 
 // One question line, without its newline, is answered from a file of this kind by one printed line; eight bytes that are
@@ -22,5 +24,6 @@ pub fn respond_from(
 {
     match source {
         Source::Table => respond(file, line, out, log),
+        Source::SuFile => respond_su(file, line, out),
     }
 }

@@ -1,5 +1,5 @@
-use Rattle.streams.proofs.InputLaws.{loaded-bytes}
 use borrow.Author.Needs.{needs}
+use Rattle.streams.proofs.InputLaws.{loaded-bytes}
 use Rattle.supertab.proofs.answer.Statement.{statement}
 use Rattle.supertab.proofs.answer.Tie as tie
 
@@ -8,9 +8,6 @@ file-buffer-requires c κs = search needs
 
 slice-aggregate-load : tie.Need-slice-aggregate-load
 slice-aggregate-load c = search needs
-
-slice-aggregate-load-2 : tie.Need-slice-aggregate-load-2
-slice-aggregate-load-2 c = search needs
 
 load-requires : tie.Need-load-requires
 load-requires c κs = search needs
@@ -48,7 +45,6 @@ answer-spec =
     (tie.spec
     file-buffer-requires
     slice-aggregate-load
-    slice-aggregate-load-2
     load-requires
     enum-known-n
     enum-told

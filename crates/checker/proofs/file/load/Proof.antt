@@ -1,5 +1,5 @@
-use Rattle.streams.proofs.InputLaws.{loaded-bytes}
 use borrow.Author.Needs.{needs}
+use Rattle.streams.proofs.InputLaws.{loaded-bytes}
 use Rattle.checker.proofs.file.load.Statement.{statement}
 use Rattle.checker.proofs.file.load.Tie as tie
 

@@ -8,7 +8,7 @@ use lib.ListN.{length, take}
 use Rattle.text.proofs.Laws.{part-length}
 use Rattle.responder.specs.Contract.{responseFrom, loggedFrom}
 use Rattle.responder.proofs.LinesLaws.{end-most, response-room, response-behind, record-room, record-behind, small-buffer}
-use Rattle.responder.proofs.SourceLaws.{response-short, logged-short}
+use Rattle.responder.proofs.SourceLaws.{logged-short}
 use Rattle.responder.proofs.lines.add_answer.Statement.{statement}
 use Rattle.responder.proofs.lines.add_answer.Tie as tie
 
@@ -49,7 +49,7 @@ enum-known-n : tie.Need-enum-known-n
 enum-known-n c = search needs
 
 add-t28 : tie.Need-add-t28
-add-t28 c = let h = response-room _ _ _ _ _ _ (c .before .before .before .before .before .before .before .respond-from .ensures) (c .before .n .given .1) (response-short _ _ _) in omega (arith, h)
+add-t28 c = let h = response-room _ _ _ _ _ _ (c .before .before .before .before .before .before .before .respond-from .ensures) (c .before .n .given .1) in omega (arith, h)
 
 add-with-waiting : tie.Need-add-with-waiting
 add-with-waiting c =
@@ -89,9 +89,9 @@ returns c =
     let k = c .before .before .n .given .1 in
     let w = c .with-waiting .ensures in
     let cut : a .progress .length - 0 ≡ a .progress .length = omega arith in (
-      (omega (arith, response-room _ _ _ _ _ _ h k (response-short _ _ _)), omega arith, omega (arith, w .1, p, record-room _ _ _ _ _ _ h k (logged-short _ _ _) (l .is_open) q), omega arith),
+      (omega (arith, response-room _ _ _ _ _ _ h k), omega arith, omega (arith, w .1, p, record-room _ _ _ _ _ _ h k (logged-short _ _ _) (l .is_open) q), omega arith),
       record {
-        bytes = response-behind _ _ _ _ _ _ h k (response-short _ _ _) _ _ _ (omega arith) ∙ ap (λ (m : ℕ). take (a .progress .waiting) (a .out .now) ++ responseFrom (a .source) (a .file .now) (take m (a .line .now))) cut;
+        bytes = response-behind _ _ _ _ _ _ h k _ _ _ (omega arith) ∙ ap (λ (m : ℕ). take (a .progress .waiting) (a .out .now) ++ responseFrom (a .source) (a .file .now) (take m (a .line .now))) cut;
         records = rw (w .1, w .0) (record-behind _ _ _ _ _ _ h k (logged-short _ _ _) (l .is_open) q _ _ _ (omega arith) ∙ ap (λ (m : ℕ). take (l .waiting) (a .records .now) ++ cond (l .is_open) (loggedFrom (a .source) (a .file .now) (take m (a .line .now))) []) cut);
         begun = refl;
       },

@@ -1,7 +1,7 @@
-use Rattle.streams.proofs.InputLaws.{loaded-bytes}
 use borrow.Author.Needs.{needs}
-use Rattle.checker.proofs.check.ask_at.Statement.{statement}
-use Rattle.checker.proofs.check.ask_at.Tie as tie
+use Rattle.streams.proofs.InputLaws.{loaded-bytes}
+use Rattle.checker.proofs.su.check.Statement.{statement}
+use Rattle.checker.proofs.su.check.Tie as tie
 
 buffer-requires : tie.Need-buffer-requires
 buffer-requires c κs = search needs
@@ -27,17 +27,17 @@ returns c = search needs
 array-share-prefix-name : tie.Need-array-share-prefix-name
 array-share-prefix-name c = loaded-bytes (c .before .before .before .before .load-name .ensures) (c .before .n .given .1) .0
 
-slice-aggregate-ask-named : tie.Need-slice-aggregate-ask-named
-slice-aggregate-ask-named c = loaded-bytes (c .before .before .before .before .before .load-name .ensures) (c .before .before .n .given .1) .1
+slice-aggregate-check-named : tie.Need-slice-aggregate-check-named
+slice-aggregate-check-named c = loaded-bytes (c .before .before .before .before .before .load-name .ensures) (c .before .before .n .given .1) .1
 
-ask-named-requires : tie.Need-ask-named-requires
-ask-named-requires c κs = search needs
+check-named-requires : tie.Need-check-named-requires
+check-named-requires c κs = search needs
 
 returns-2 : tie.Need-returns-2
 returns-2 c = search needs
 
-pub ask-at-spec : {M : Type 1} → statement M
-ask-at-spec =
+pub check-spec : {M : Type 1} → statement M
+check-spec =
     tie.close
     (tie.spec
     buffer-requires
@@ -48,6 +48,6 @@ ask-at-spec =
     enum-told
     returns
     array-share-prefix-name
-    slice-aggregate-ask-named
-    ask-named-requires
+    slice-aggregate-check-named
+    check-named-requires
     returns-2)

@@ -1,7 +1,7 @@
 use borrow.Author.Needs.{needs}
 use Rattle.streams.proofs.InputLaws.{loaded-bytes}
-use Rattle.checker.proofs.check.ask_named.Statement.{statement}
-use Rattle.checker.proofs.check.ask_named.Tie as tie
+use Rattle.checker.proofs.su.check_named.Statement.{statement}
+use Rattle.checker.proofs.su.check_named.Tie as tie
 
 file-buffer-requires : tie.Need-file-buffer-requires
 file-buffer-requires c κs = search needs
@@ -21,20 +21,20 @@ enum-told c = search needs
 returns : tie.Need-returns
 returns c = search needs
 
-array-share-prefix-table : tie.Need-array-share-prefix-table
-array-share-prefix-table c = loaded-bytes (c .before .before .before .before .load-named .ensures) (c .before .n .given .1) .0
+array-share-prefix-file : tie.Need-array-share-prefix-file
+array-share-prefix-file c = loaded-bytes (c .before .before .before .before .load-named .ensures) (c .before .n .given .1) .0
 
-slice-aggregate-ask : tie.Need-slice-aggregate-ask
-slice-aggregate-ask c = loaded-bytes (c .before .before .before .before .before .load-named .ensures) (c .before .before .n .given .1) .1
+slice-aggregate-print-report : tie.Need-slice-aggregate-print-report
+slice-aggregate-print-report c = loaded-bytes (c .before .before .before .before .before .load-named .ensures) (c .before .before .n .given .1) .1
 
-ask-requires : tie.Need-ask-requires
-ask-requires c κs = search needs
+print-report-requires : tie.Need-print-report-requires
+print-report-requires c κs = search needs
 
 returns-2 : tie.Need-returns-2
 returns-2 c = search needs
 
-pub ask-named-spec : {M : Type 1} → statement M
-ask-named-spec =
+pub check-named-spec : {M : Type 1} → statement M
+check-named-spec =
     tie.close
     (tie.spec
     file-buffer-requires
@@ -43,7 +43,7 @@ ask-named-spec =
     enum-known-n
     enum-told
     returns
-    array-share-prefix-table
-    slice-aggregate-ask
-    ask-requires
+    array-share-prefix-file
+    slice-aggregate-print-report
+    print-report-requires
     returns-2)
