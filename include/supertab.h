@@ -2,10 +2,10 @@
  *
  * supertab_answer takes a table, a question and two lent buffers, and gives a numbered answer. supertab_record_write
  * packs such an answer into the eight bytes of a log record, supertab_record_read reads one back; supertab_figures_new
- * and supertab_figures_feed count such records. They keep nothing between calls, need no heap and may be called from
- * several threads at once. Link libsupertab_c.a.
+ * and supertab_figures_feed count such records. supertab_su_answer answers from a su file. They keep nothing between
+ * calls, need no heap and may be called from several threads at once. Link libsupertab_c.a.
  *
- * For C11 and for C++. The manual page supertab(1) has the rules of a table in brief.
+ * For C11 and for C++. The manual page supertab(1) has the rules of a table and of a su file in brief.
  */
 #ifndef SUPERTAB_H
 #define SUPERTAB_H
@@ -323,6 +323,60 @@ uint8_t supertab_figures_new(int64_t *figures, size_t figures_length);
 uint8_t supertab_figures_feed(int64_t *figures, size_t figures_length,
                               const uint8_t *batch, size_t batch_length,
                               int64_t *refused, size_t refused_length);
+
+/* The answer from a su file. 0 to 3 are decisions, 10 to 14 refusals. */
+enum {
+    /* NOPASS: the user becomes the target, and no password is asked for. */
+    SUPERTAB_SU_NOPASS = 0,
+    /* OWNPASS: the user becomes the target once he or she has given his or her own password. */
+    SUPERTAB_SU_OWNPASS = 1,
+    /* No rule applies. */
+    SUPERTAB_SU_NO_RULE = 2,
+    /* DENY: the user does not become the target, and no password is asked for. */
+    SUPERTAB_SU_DENY = 3,
+    /* The question is not as the arguments below say. */
+    SUPERTAB_SU_BAD_QUESTION = 10,
+    /* The file has more than 32,768 bytes. */
+    SUPERTAB_SU_LONG_FILE = 11,
+    /* The file has a byte other than tab, newline and 0x20 to 0x7E. */
+    SUPERTAB_SU_REFUSED_BYTE = 12,
+    /* The file is cut short: its last line is not ended by a newline. */
+    SUPERTAB_SU_CUT_SHORT = 13,
+    /* A line is malformed, whether it would apply or not. */
+    SUPERTAB_SU_MALFORMED = 14,
+    /* The report has fewer than SUPERTAB_SU_REPORT_LENGTH numbers: nothing was looked at, nothing was written. */
+    SUPERTAB_SU_SMALL_REPORT = 255
+};
+
+enum {
+    /* The fewest numbers of the report. */
+    SUPERTAB_SU_REPORT_LENGTH = 1
+};
+
+/* Answers from a su file whether a user may become another one, the target.
+ *
+ * What is said of arrays and of pointers at supertab_answer holds here too.
+ *
+ *   file           the whole file, at most 32,768 bytes; no zero byte ends it
+ *   target         whom the user wants to become: 1 to 32 bytes of letters, digits, `.`, `_` and `-`
+ *   user           who asks, of the same form
+ *   groups         the groups of the user, at most 32 of the same form: strings one behind the other, each ended by a
+ *                  zero byte, so that the last byte is zero; no bytes for no group
+ *   report         at least 1 number. The first is written, by every answer but 255: for 0, 1 and 3 the deciding line,
+ *                  which is its number, from 1; 0 for 2; for a refusal the place, counted in bytes from 0: 10: 0; 11:
+ *                  32,768; 12: the byte; 13 and 14: where the line begins. Later numbers stay.
+ *
+ * The result is the answer. The first line whose rule applies decides, and yet all lines are read before the answer.
+ * Where several answers apply: 255 first, then 10, 11, 12, then the lines in their order, the first malformed one
+ * deciding; 13 comes last, behind the faults of the whole lines. Only a file without a fault gives a decision. A file
+ * that was cut short never gives another rule's answer: where the whole gives a decision, each beginning of it gives
+ * that one, 2 or 13.
+ */
+uint8_t supertab_su_answer(const uint8_t *file, size_t file_length,
+                           const uint8_t *target, size_t target_length,
+                           const uint8_t *user, size_t user_length,
+                           const uint8_t *groups, size_t groups_length,
+                           int64_t *report, size_t report_length);
 
 #ifdef __cplusplus
 }

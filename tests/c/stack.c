@@ -1,7 +1,8 @@
-/* How much stack the whole call takes: it is run on a thread whose stack was painted beforehand, and the bytes that it
- * touched are counted; what a thread takes by itself is subtracted. Each table also has the answer that it must get, so
- * that it is known to be read to where it matters. Fails above 96 KB. Tables may be named as arguments, for a question by
- * ann on van2 for setclock. Prints a line for each table, and a last line 'N passed, M failed'. */
+/* How much stack the whole call on a table takes, and the one on a su file: it is run on a thread whose stack was painted
+ * beforehand, and the bytes that it touched are counted; what a thread takes by itself is subtracted. Each table and file
+ * also has the answer that it must get, so that it is known to be read to where it matters. Fails above 96 KB, and above
+ * 8 KB for a su file. Tables may be named as arguments, for a question by ann on van2 for setclock. Prints a line for each
+ * table and file, and a last line 'N passed, M failed'. */
 #define _GNU_SOURCE
 #include <pthread.h>
 #include <stdio.h>
@@ -11,7 +12,7 @@
 
 #include "supertab.h"
 
-enum { STACK = 4 << 20, GUARD = 65536, PAINT = 0xA5, MOST = 96 * 1024, ANY = -1 };
+enum { STACK = 4 << 20, GUARD = 65536, PAINT = 0xA5, ANY = -1 };
 
 #define GLOBAL ":global patterns=shell\n"
 
@@ -22,7 +23,6 @@ static uint8_t groups[4096], arguments[32768];
 static size_t groups_length, arguments_length;
 static int number;
 static int passed, failed;
-static size_t worst;
 
 static void *idle(void *nothing) {
     return nothing;
@@ -35,6 +35,14 @@ static void *call(void *nothing) {
     number = supertab_answer(table, length, (const uint8_t *)command, strlen(command), (const uint8_t *)user, strlen(user),
                              groups, groups_length, (const uint8_t *)host, strlen(host), 600, false, 0, arguments,
                              arguments_length, buffer, sizeof buffer, report, SUPERTAB_REPORT_LENGTH);
+    return nothing;
+}
+
+/* The table as a su file, and the command as the target. */
+static void *su_call(void *nothing) {
+    static int64_t report[SUPERTAB_SU_REPORT_LENGTH];
+    number = supertab_su_answer(table, length, (const uint8_t *)command, strlen(command), (const uint8_t *)user,
+                                strlen(user), groups, groups_length, report, SUPERTAB_SU_REPORT_LENGTH);
     return nothing;
 }
 
@@ -64,17 +72,29 @@ static size_t touched(void *(*run)(void *)) {
     return STACK - untouched;
 }
 
-static void measure(const char *name, int wanted) {
-    size_t before = touched(idle), all = touched(call);
+/* A call, the most bytes of stack that it may take, and the most that it took. */
+struct measured {
+    void *(*run)(void *);
+    size_t most, worst;
+};
+
+static struct measured of_table = {call, 96 * 1024, 0}, of_su_file = {su_call, 8 * 1024, 0};
+
+static void measure_call(struct measured *m, const char *name, int wanted) {
+    size_t before = touched(idle), all = touched(m->run);
     size_t taken = all > before ? all - before : 0;
-    bool good = taken <= MOST && (wanted == ANY || number == wanted);
+    bool good = taken <= m->most && (wanted == ANY || number == wanted);
     printf("%-44s answer %3d  stack %7zu bytes%s\n", name, number, taken, good ? "" : "  FAILED");
     if (wanted != ANY && number != wanted) {
         printf("  the answer must be %d\n", wanted);
     }
-    worst = taken > worst ? taken : worst;
+    m->worst = taken > m->worst ? taken : m->worst;
     passed += good;
     failed += !good;
+}
+
+static void measure(const char *name, int wanted) {
+    measure_call(&of_table, name, wanted);
 }
 
 /* Adds a text so many times. */
@@ -232,6 +252,41 @@ static void all_at_once(void) {
     measure("all at once", SUPERTAB_PASSWORD);
 }
 
+static void begin_su(void) {
+    length = groups_length = 0;
+    command = "root";
+    user = "ann";
+}
+
+/* A su file of a text repeated so many times, between what stands before and behind it. */
+static void su_file(const char *name, const char *before, const char *unit, size_t times, const char *behind, int wanted) {
+    add(before, 1);
+    add(unit, times);
+    add(behind, 1);
+    measure_call(&of_su_file, name, wanted);
+    begin_su();
+}
+
+static void su_files(void) {
+    begin_su();
+    su_file("a su file of one rule", "", "", 0, "root:ann:DENY\n", SUPERTAB_SU_DENY);
+    /* 5, twice 16,377 and 9 bytes make 32,768. */
+    su_file("a list of 16,378 names", "root:", "x,", 16377, "ann:DENY\n", SUPERTAB_SU_DENY);
+    su_file("a list of users on the to side", "ALL EXCEPT ", "x,", 16000, "bo:ann:NOPASS\n", SUPERTAB_SU_NOPASS);
+    long_question();
+    su_file("900 groups, and 32 of the user", "root:ALL EXCEPT GROUP ", "ggggggggggggggggggggggggggggggg,", 900,
+            "x:OWNPASS\n", SUPERTAB_SU_OWNPASS);
+    su_file("2,520 rules that do not apply", "", "root:bo:DENY\n", 2520, "", SUPERTAB_SU_NO_RULE);
+    su_file("a rule behind 2,000 comments", "", "# root:bo\n", 2000, "ALL:ALL:DENY\n", SUPERTAB_SU_DENY);
+    su_file("32,768 empty lines", "", "\n", 32768, "", SUPERTAB_SU_NO_RULE);
+    su_file("a malformed line behind the rule", "root:ann:DENY\n", "\t", 32000, "root:ann\n", SUPERTAB_SU_MALFORMED);
+    su_file("a cut line of 32,768 bytes", "", "x", 32768, "", SUPERTAB_SU_CUT_SHORT);
+    su_file("a refused byte", "root:ann:DENY\n", "#", 32000, "\r\n", SUPERTAB_SU_REFUSED_BYTE);
+    su_file("a su file of 32,769 bytes", "", "\n", 32769, "", SUPERTAB_SU_LONG_FILE);
+    user = "";
+    su_file("a bad question", "", "\n", 32768, "", SUPERTAB_SU_BAD_QUESTION);
+}
+
 static void file(const char *name) {
     FILE *from = fopen(name, "rb");
     if (from == NULL) {
@@ -250,13 +305,16 @@ int main(int count, char **names) {
     begin();
     /* Once before, so that what the first call of a program does is not measured. */
     touched(call);
+    touched(su_call);
     patterns();
     lines();
     all_at_once();
+    su_files();
     for (int i = 1; i < count; i++) {
         file(names[i]);
     }
-    printf("at most %zu bytes of stack, %d are allowed\n", worst, MOST);
+    printf("at most %zu bytes of stack, %zu are allowed\n", of_table.worst, of_table.most);
+    printf("at most %zu bytes of stack for a su file, %zu are allowed\n", of_su_file.worst, of_su_file.most);
     printf("%d passed, %d failed\n", passed, failed);
     return failed != 0;
 }

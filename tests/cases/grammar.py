@@ -3,7 +3,7 @@
 Grammar makes patterns, fields, control lines and tables, either good ones for
 a question (they permit it, mostly) or loose ones, and can damage a table.
 """
-import random
+from choices import Choices
 
 G = ":global patterns=shell\n"
 USERS = ("ann", "bo", "tmp", "tom", "root", "kim", "a.b-c", "x")
@@ -22,21 +22,7 @@ def well(field):
     return not set("{}[]\\") & set(field)
 
 
-class Grammar:
-    def __init__(self, seed):
-        self.random = random.Random(seed).random
-
-    # small choices; only random() is used, so that runs do not depend on the library's helpers
-
-    def below(self, n):
-        return int(self.random() * n)
-
-    def pick(self, seq):
-        return seq[int(self.random() * len(seq))]
-
-    def odds(self, p):
-        return self.random() < p
-
+class Grammar(Choices):
     # patterns
 
     def one(self, c):

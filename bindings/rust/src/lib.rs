@@ -1,8 +1,8 @@
 //! Who may run which command, from a rule table in the style of super.tab.
 //!
 //! A safe way to call the static library `libsupertab_c.a`, whose answers, log records and figures
-//! are proved to be those of the definitions. Nothing is kept between calls. A table that was cut in
-//! the middle of a line decides nothing: it is refused.
+//! are proved to be those of the definitions. Nothing is kept between calls. A table or a su file
+//! that was cut in the middle of a line decides nothing: it is refused.
 //!
 //! ```
 //! use supertab::{answer, Answer, Question};
@@ -50,6 +50,19 @@
 //! # Ok::<(), supertab::FiguresRefusal>(())
 //! ```
 //!
+//! Who may become whom is answered from a su file:
+//!
+//! ```
+//! use supertab::{su_answer, SuAnswer, SuQuestion, SuRefusal};
+//!
+//! let file = b"root:chris,birddog:OWNPASS\nroot:ALL EXCEPT GROUP wheel:DENY\n";
+//! let question = SuQuestion { target: b"root", user: b"ann", groups: &[b"crew"] };
+//! assert_eq!(su_answer(file, &question), SuAnswer::Deny { line: 2 });
+//! // The second line, which begins at the byte 27, lost its end.
+//! let cut = SuAnswer::Refused(SuRefusal::CutShort { place: 27 });
+//! assert_eq!(su_answer(&file[..40], &question), cut);
+//! ```
+//!
 //! The archive is looked for in the folder that `SUPERTAB_LIB_DIR` names when the crate is built,
 //! or else in `target/staticlib` of the repository, where `rt staticlib supertab_c` leaves it.
 
@@ -59,6 +72,7 @@ mod figures;
 mod question;
 pub mod raw;
 mod record;
+mod su;
 
 pub use answer::{Answer, Permission, Refusal};
 pub use cause::Cause;
@@ -66,6 +80,7 @@ pub use figures::{Figures, FiguresRefusal};
 pub use question::{zero_ended, Question};
 pub use raw::{FIGURES_LIMIT, RECORD_LENGTH};
 pub use record::{read_record, write_record, Fields, RecordRefusal};
+pub use su::{su_answer, SuAnswer, SuQuestion, SuRefusal};
 
 use raw::{report, BUFFER_LENGTH, REPORT_LENGTH};
 

@@ -1,6 +1,6 @@
 //! The functions of the static library as they stand in `include/supertab.h`, for callers who lend
-//! their own buffers. [`crate::answer`], [`crate::write_record`], [`crate::read_record`] and
-//! [`crate::Figures`] are the safe ways to call them.
+//! their own buffers. [`crate::answer`], [`crate::write_record`], [`crate::read_record`],
+//! [`crate::Figures`] and [`crate::su_answer`] are the safe ways to call them.
 
 /// The fewest bytes of the answer buffer.
 pub const BUFFER_LENGTH: usize = 2_048;
@@ -67,6 +67,25 @@ pub mod figure {
     pub const AGE_COUNT: usize = 58;
     pub const REFUSED: usize = 59;
     pub const GIVEN: usize = 60;
+}
+
+/// The fewest numbers of the report of an answer from a su file.
+pub const SU_REPORT_LENGTH: usize = 1;
+
+/// The answer from a su file for a report with fewer numbers.
+pub const SMALL_SU_REPORT: u8 = 255;
+
+/// Answers from a su file; `include/supertab.h` says what each means.
+pub mod su {
+    pub const NOPASS: u8 = 0;
+    pub const OWNPASS: u8 = 1;
+    pub const NO_RULE: u8 = 2;
+    pub const DENY: u8 = 3;
+    pub const BAD_QUESTION: u8 = 10;
+    pub const LONG_FILE: u8 = 11;
+    pub const REFUSED_BYTE: u8 = 12;
+    pub const CUT_SHORT: u8 = 13;
+    pub const MALFORMED: u8 = 14;
 }
 
 extern "C" {
@@ -147,5 +166,24 @@ extern "C" {
         batch_length: usize,
         refused: *mut i64,
         refused_length: usize,
+    ) -> u8;
+
+    /// Answers a question from a su file, as `include/supertab.h` says.
+    ///
+    /// # Safety
+    ///
+    /// Each pointer is valid for the number of elements behind it and not null, also for none;
+    /// `report` may be written and overlaps nothing else that is passed.
+    pub fn supertab_su_answer(
+        file: *const u8,
+        file_length: usize,
+        target: *const u8,
+        target_length: usize,
+        user: *const u8,
+        user_length: usize,
+        groups: *const u8,
+        groups_length: usize,
+        report: *mut i64,
+        report_length: usize,
     ) -> u8;
 }

@@ -1,10 +1,11 @@
-//! The list of causes, the answer numbers, the report's indices, those of a record's fields and those
-//! of figures stand in several places, for the reader of each; here they are held to each other.
+//! The list of causes, the answer numbers, those from a su file, the report's indices, those of a
+//! record's fields and those of figures stand in several places, for the reader of each; here they
+//! are held to each other.
 
 use std::fs;
 use std::path::Path;
 
-use supertab::raw::{self, field, figure, report};
+use supertab::raw::{self, field, figure, report, su};
 use supertab::{Cause, FiguresRefusal, RecordRefusal, Refusal};
 
 /// A file of the repository.
@@ -75,7 +76,7 @@ fn causes_of_the_header() {
 #[test]
 fn answers_of_the_header() {
     // 01's table of answer numbers, with the one for a report that is too short.
-    let others = ["BUFFER_", "REPORT_", "CAUSE_", "RECORD_", "FIELD", "FIGURE"];
+    let others = ["BUFFER_", "REPORT_", "CAUSE_", "RECORD_", "FIELD", "FIGURE", "SU_"];
     let numbers: Vec<usize> = constants("SUPERTAB_")
         .into_iter()
         .filter(|(name, _)| !others.iter().any(|other| name.starts_with(other)))
@@ -160,6 +161,25 @@ fn figures_of_the_header() {
     ]
     .map(|(name, number)| (name.to_string(), number));
     assert_eq!(constants("SUPERTAB_FIGURE_"), ours);
+}
+
+#[test]
+fn su_answers_of_the_header() {
+    let ours = [
+        ("NOPASS", su::NOPASS.into()),
+        ("OWNPASS", su::OWNPASS.into()),
+        ("NO_RULE", su::NO_RULE.into()),
+        ("DENY", su::DENY.into()),
+        ("BAD_QUESTION", su::BAD_QUESTION.into()),
+        ("LONG_FILE", su::LONG_FILE.into()),
+        ("REFUSED_BYTE", su::REFUSED_BYTE.into()),
+        ("CUT_SHORT", su::CUT_SHORT.into()),
+        ("MALFORMED", su::MALFORMED.into()),
+        ("SMALL_REPORT", raw::SMALL_SU_REPORT.into()),
+        ("REPORT_LENGTH", raw::SU_REPORT_LENGTH),
+    ]
+    .map(|(name, number)| (name.to_string(), number));
+    assert_eq!(constants("SUPERTAB_SU_"), ours);
 }
 
 #[test]

@@ -3,16 +3,13 @@ use mathlib.Core.Path.{_≡_, refl, ap, _∙_}
 use mathlib.Core.Bool.{Bool, true, false, not, cond, _&&_}
 use mathlib.Core.List.{List}
 use mathlib.Core.Option.{Option, none, some, Option·map}
-use Prim.Native.Nat.{ℕ, _+_, _-_, _≤_, _<_}
+use Prim.Native.Nat.{ℕ}
 use borrow.Author.Tests.{not-true, not-false}
-use lib.ListN.{length, take, drop}
 use Rattle.text.specs.Lists.{any}
 use Rattle.text.proofs.Laws.{both-no, both-yes, both-assoc, clash}
-use Rattle.question.specs.Contract.{stringsIn, untilZero}
-use Rattle.question.proofs.ZeroEnded.{in-at, in-open, in-end}
+use Rattle.question.specs.Contract.{stringsIn}
 use Rattle.glob.specs.Match.{matches}
 use Rattle.glob.specs.Alternative.{alternativeOf}
-use Rattle.times.specs.declared.item.ItemAnswer.the-variants.{Matches, Misses as ItemMisses, Malformed as NoItem}
 use Rattle.times.specs.declared.item.TimeItem.{TimeItem}
 use Rattle.times.specs.Item.{itemOf, itemMatches}
 use Rattle.times.specs.Contract.{itemAnswer}
@@ -23,24 +20,7 @@ use Rattle.condition.specs.declared.judge.Judgement.the-variants.{Malfor
 use Rattle.condition.specs.Users.{onHost, userApplies, groupApplies}
 use Rattle.condition.specs.Condition.{Sort, user, group, time, judgeOf}
 use Rattle.condition.specs.Contract.{asksTime, sortIn, judgementIn, judgementOf, judgeBy, nameApplies, appliesBy}
-
--- ---- one group after the other, with `end` where the string that begins at `from` ends
-module _ (f : List ℕ → Bool) (s : List ℕ) (from end : ℕ) (e : end ≡ from + untilZero (drop from s)) where
-  pub groups-on : end < length s → f (take (end - from) (drop from s)) ≡ false → any f (stringsIn (drop (end + 1) s)) ≡ any f (stringsIn (drop from s))
-  unfolding any
-  groups-on h t = rw (in-at s from end e h, t)
-
-  pub groups-hit : end < length s → f (take (end - from) (drop from s)) ≡ true → true ≡ any f (stringsIn (drop from s))
-  unfolding any
-  groups-hit h t = rw (in-at s from end e h, t)
-
-  pub groups-open : end ≡ length s → false ≡ any f (stringsIn (drop from s))
-  unfolding any
-  groups-open q = rw (in-open s from end e q)
-
-pub groups-end : (f : List ℕ → Bool) (s : List ℕ) (from : ℕ) → length s ≤ from → false ≡ any f (stringsIn (drop from s))
-unfolding any
-groups-end f s from h = rw (in-end s from h)
+use Rattle.times.specs.declared.item.ItemAnswer.the-variants.{Matches, Misses as ItemMisses, Malformed as NoItem}
 
 -- ---- the name of an alternative, where it is judged
 module _ (judging : Bool) (a : Asks) (u : List ℕ) (gs : List (List ℕ)) (p : List ℕ) where

@@ -15,6 +15,7 @@ use Rattle.text.specs.Contract.{Wrote}
 use Rattle.text.specs.declared.buffer.Filled.{Filled}
 use Rattle.text.specs.declared.buffer.Filled.the-variants.{Done, Full}
 use Rattle.text.proofs.Laws.{next, part-rest, drop-take}
+use Rattle.text.proofs.Splits.{split-some}
 use Rattle.text.proofs.Buffers.{wrote-done, wrote-then, wrote-read, up-full}
 use Rattle.answer.specs.Meaning.{ended}
 use Rattle.console.specs.QuestionLine.{groupsIn, argumentsIn}
@@ -23,15 +24,6 @@ use Rattle.console.specs.Contract.{argumentsBehind, part}
 -- the bytes with a zero in place of each c, and one more zero
 abbrev pub endedParts : ℕ → List ℕ → List ℕ
 endedParts c s = flatMap ended (splitAt c s)
-
-split-some : (c : ℕ) (s : List ℕ) → (p : List ℕ) × (ps : List (List ℕ)) × (splitAt c s ≡ p ∷ ps)
-unfolding splitAt
-split-some c [] = ([], [], refl)
-split-some c (b ∷ s) = go (eqb b c) (split-some c s)
-  where
-    go : (t : Bool) → ((p : List ℕ) × (ps : List (List ℕ)) × (splitAt c s ≡ p ∷ ps)) → (p : List ℕ) × (ps : List (List ℕ)) × (cond t ([] ∷ splitAt c s) (onto b (splitAt c s)) ≡ p ∷ ps)
-    go true w = ([], splitAt c s, refl)
-    go false w = (b ∷ w .0, w .1, rw (w .2))
 
 parts-first : (c b : ℕ) (s : List ℕ) → endedParts c (b ∷ s) ≡ cond (eqb b c) 0 b ∷ endedParts c s
 unfolding splitAt flatMap

@@ -1,20 +1,19 @@
 -- The laws of good commands, names, arguments and questions.
-use mathlib.Core.Path.{_≡_, refl, sym, _∙_}
+use mathlib.Core.Path.{_≡_, refl, sym}
 use mathlib.Core.Bool.{Bool, true, false, not, cond, _&&_}
 use mathlib.Core.List.{List, [], _∷_}
 use mathlib.Core.Option.{Option, none, some, bind}
-use Prim.Native.Nat.{ℕ, _+_, _-_, _≤_, _<_}
+use Prim.Native.Nat.{ℕ, _≤_, _<_}
 use native.Mathlib.Omega.{arith}
 use borrow.Author.Tests.{le-leb, lt-leb, lt-ltb, le-ltb}
 use lib.Dec.{eqb, ltb}
-use lib.ListN.{length, take, drop}
+use lib.ListN.{length}
 use Rattle.text.specs.Bytes.{bytes}
 use Rattle.text.specs.Class.{nameByte, printable, commandByte}
 use Rattle.text.specs.Lists.{null, all, splitAt, onto}
 use Rattle.text.specs.Slice.{same, headIs}
-use Rattle.text.specs.Contract.{lead}
-use Rattle.text.proofs.Laws.{part-rest, both-no, both-yes, either-yes}
-use Rattle.text.proofs.Leads.{split-at, split-last}
+use Rattle.text.proofs.Laws.{both-no, either-yes}
+use Rattle.text.proofs.Lists.{filled}
 use Rattle.question.specs.declared.WeekMinute.{WeekMinute}
 use Rattle.question.specs.declared.LastAuthentication.{LastAuthentication}
 use Rattle.question.specs.Question.{Question, commandBytes, userBytes, hostBytes, mostGroups, argumentBytes, mostArguments, weekMinutes, stringsOf, goodComponent, goodCommand, goodName, goodArgument, goodStrings, goodQuestion, ifGood, questionOf}
@@ -37,25 +36,6 @@ module _ (p : List ℕ) where
   pub component-rest : (length p ≡ 0 → ⊥) → same p (bytes ".") ≡ false → not (same p (bytes "..")) ≡ goodComponent p
   unfolding goodComponent
   component-rest n t = rw (filled p n, t)
-    where
-      filled : (p : List ℕ) → (length p ≡ 0 → ⊥) → null p ≡ false
-      filled [] n = absurd (n refl)
-      filled (x ∷ p) n = refl
-
--- the components from a place on, with `end` where the first of them ends
-module _ (s : List ℕ) (from end : ℕ) (e : end ≡ from + lead 47 (drop from s)) where
-  pub components-last : {t : Bool} → end ≡ length s → t ≡ goodComponent (take (length s - from) (drop from s)) → t ≡ all goodComponent (splitAt 47 (drop from s))
-  unfolding all
-  components-last q t = let h : length s ≤ end = omega arith in t ∙ rw (part-rest from s, split-last 47 s from end e h) (sym (both-yes (goodComponent (drop from s))))
-
-  module _ (h : end < length s) where
-    pub components-off : goodComponent (take (end - from) (drop from s)) ≡ false → false ≡ all goodComponent (splitAt 47 (drop from s))
-    unfolding all
-    components-off t = rw (split-at 47 s from end e h, t)
-
-    pub components-on : goodComponent (take (end - from) (drop from s)) ≡ true → all goodComponent (splitAt 47 (drop (end + 1) s)) ≡ all goodComponent (splitAt 47 (drop from s))
-    unfolding all
-    components-on t = rw (split-at 47 s from end e h, t)
 
 -- "not beginning with `/`" is one of the components' rules
 no-slash : (s : List ℕ) → not (headIs 47 s) && all goodComponent (splitAt 47 s) ≡ all goodComponent (splitAt 47 s)

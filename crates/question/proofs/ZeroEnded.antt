@@ -9,7 +9,7 @@ use native.Mathlib.Omega.{arith}
 use borrow.Author.Tests.{ne-eqb, le-leb, lt-leb}
 use lib.Dec.{eqb, leb}
 use lib.ListN.{length, take, drop, drop-of-length-le}
-use Rattle.text.specs.Lists.{null, all}
+use Rattle.text.specs.Lists.{null, all, any}
 use Rattle.text.specs.Contract.{lead}
 use Rattle.text.proofs.Laws.{next, both-no}
 use Rattle.text.proofs.Leads.{by-lead, by-none, lead-past, from-place}
@@ -79,6 +79,21 @@ module _ (s : List ℕ) (from end : ℕ) (e : end ≡ from + lead 0 (drop from s
   pub count-open : (n : ℕ) → end ≡ length s → n ≡ n + length (stringsIn (drop from s))
   count-open n q = rw (in-open q) (omega arith)
 
+  -- a turn of a loop that looks for a string which passes
+  module _ (f : List ℕ → Bool) where
+    pub some-open : end ≡ length s → false ≡ any f (stringsIn (drop from s))
+    unfolding any
+    some-open q = rw (in-open q)
+
+    module _ (h : end < length s) where
+      pub some-hit : f (take (end - from) (drop from s)) ≡ true → true ≡ any f (stringsIn (drop from s))
+      unfolding any
+      some-hit t = rw (in-at h, t)
+
+      pub some-on : f (take (end - from) (drop from s)) ≡ false → any f (stringsIn (drop (end + 1) s)) ≡ any f (stringsIn (drop from s))
+      unfolding any
+      some-on t = rw (in-at h, t)
+
 -- past the list's end
 module _ (s : List ℕ) (i : ℕ) where
   pub in-end : length s ≤ i → stringsIn (drop i s) ≡ []
@@ -87,6 +102,10 @@ module _ (s : List ℕ) (i : ℕ) where
 
   pub count-end : (n : ℕ) → length s ≤ i → n ≡ n + length (stringsIn (drop i s))
   count-end n h = rw (in-end h) (omega arith)
+
+  pub some-end : (f : List ℕ → Bool) → length s ≤ i → false ≡ any f (stringsIn (drop i s))
+  unfolding any
+  some-end f h = rw (in-end h)
 
 -- a loop over strings that must all be good, with k of them seen and at most `most` allowed
 module _ (f : List ℕ → Bool) (most : ℕ) where

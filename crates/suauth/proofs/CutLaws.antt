@@ -1,8 +1,8 @@
--- Demand 3: a cut file answers what the whole one says, "no rule", or 13 where the cut line begins. And a refusal depends on no question. Assumes nothing.
+-- Demand 3: a cut file answers what the whole one says, "no rule", or 13 where the cut line begins. Assumes nothing.
 use mathlib.Core.Path.{_≡_, refl, sym, ap, _∙_}
 use mathlib.Core.Bool.{Bool, true, false, cond}
 use mathlib.Core.List.{List}
-use mathlib.Core.Option.{Option, none, some, bind, orElse}
+use mathlib.Core.Option.{Option, none, some}
 use Prim.Native.Nat.{ℕ, _≤_}
 use native.Mathlib.Omega.{arith}
 use borrow.Author.Tests.{le-leb, leb-true}
@@ -10,44 +10,21 @@ use lib.Dec.{leb}
 use lib.ListN.{length, take, length-take}
 use Rattle.text.proofs.Laws.{clash}
 use Rattle.fault.specs.Fault.{Reading, fault, value}
-use Rattle.fault.proofs.Readings.{and-then, same-value}
-use Rattle.line.specs.Line.{Line, noByte}
+use Rattle.line.specs.Line.{noByte}
 use Rattle.line.specs.Fold.{Refusal, faulty, cut}
 use Rattle.line.specs.Refused.{refusedByte}
-use Rattle.line.proofs.FoldLaws.{Decides, cuts-told}
+use Rattle.line.proofs.FoldLaws.{cuts-told}
 use Rattle.line.proofs.RefusedLaws.{clean-cut}
 use Rattle.suauth.specs.declared.Action.{Action}
 use Rattle.suauth.specs.declared.Action.the-variants.{Deny, NoPassword, OwnPassword}
 use Rattle.suauth.specs.declared.SuAnswer.{SuAnswer}
 use Rattle.suauth.specs.declared.SuAnswer.the-variants.{LongFile}
-use Rattle.suauth.specs.Rule.{Rule, Malformed, ruleIn}
+use Rattle.suauth.specs.Rule.{Malformed}
 use Rattle.suauth.specs.Answer.{fileLimit, toldOf, isDecision, saysNoRule, lineTold}
-use Rattle.suauth.specs.Meaning.{Question, Asked, questionOf, applies, Decision, decidedBy, lineRead, linesGive, actionBy, settled, readBytes, readFile, answerOf}
+use Rattle.suauth.specs.Meaning.{Question, Asked, questionOf, Decision, lineRead, linesGive, actionBy, settled, readBytes, readFile, answerOf}
 use Rattle.suauth.specs.Cut.{nothingYet, cutAnswer, CutSafe}
 use Rattle.suauth.specs.Contract.{WholeOf, CutOf}
-
--- ---- a decision stays, and is made at the line whose number it has
-module _ (q : Question) where
-  -- a line that is read leaves what was decided, or decides by its own rule
-  read-by : (d d′ : Option Decision) (l : Line) → lineRead q d l ≡ value d′ → (r : Option Rule) × (orElse d (bind r (decidedBy q (l .number))) ≡ d′)
-  unfolding lineRead
-  read-by d d′ l e = let x = and-then (ruleIn (l .bytes)) _ d′ e in (x .0, same-value (x .2))
-
-  own-line : (n : ℕ) (r : Option Rule) (d : Decision) → bind r (decidedBy q n) ≡ some d → d .line ≡ n
-  unfolding bind
-  own-line n none d e = clash cc
-  own-line n (some r) d e = by (applies q r) e
-    where
-      by : (x : Bool) → cond x (some (record { line = n; action = r .action })) none ≡ some d → d .line ≡ n
-      by true f = let z : record { line = n; action = r .action } ≡ d = cc in sym (ap (λ y. y .line) z)
-      by false f = clash cc
-
-  once : Decides (lineRead q) (λ d. d) (λ d. d .line)
-  unfolding orElse
-  once = record {
-    keeps = λ d d′ l m e f. let x = read-by d d′ l f in sym (x .1) ∙ ap (λ o. orElse o (bind (x .0) (decidedBy q (l .number)))) e;
-    fresh = λ d d′ l m e f g. let x = read-by d d′ l f in own-line (l .number) (x .0) m (sym (ap (λ o. orElse o (bind (x .0) (decidedBy q (l .number)))) e) ∙ x .1 ∙ g);
-  }
+use Rattle.suauth.proofs.LineLaws.{once}
 
 -- ---- where a file gives a decision, every check before the lines has passed
 no-decision : {A : Type 0} → false ≡ true → A

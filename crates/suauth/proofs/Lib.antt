@@ -1,4 +1,3 @@
-pub mod PartLaws
 pub mod NameLaws
 pub mod IdLaws
 pub mod TrimLaws
@@ -6,3 +5,4 @@ pub mod RuleLaws
 pub mod LineLaws
 pub mod AnswerLaws
 pub mod CutLaws
+pub mod FormLaws

@@ -9,7 +9,9 @@ use lib.ListN.{length, take, drop}
 use Rattle.text.specs.Contract.{lead}
 use Rattle.text.proofs.Laws.{clash}
 use Rattle.fault.specs.Fault.{Reading, fault, value, andThen}
-use Rattle.line.specs.Line.{noByte}
+use Rattle.fault.proofs.Readings.{and-then, same-value}
+use Rattle.line.specs.Line.{Line, noByte}
+use Rattle.line.proofs.FoldLaws.{Decides}
 use Rattle.line.proofs.StepLaws.{outcomeFrom, from-start, from-end, from-cut, from-fault, from-on}
 use Rattle.line.proofs.PlainLaws.{plain-ends, plain-cut}
 use Rattle.suauth.specs.declared.SuAnswer.{SuAnswer}
@@ -97,3 +99,26 @@ module _ (q : Question) where
                 (rw (here, k, g) (told-good d number (ruleIn (take (end - at) (drop at t))) (λ z. b (g ∙ z)))))
                 ∙ f .rest;
           }
+
+-- ---- a decision stays, and is made at the line whose number it has
+module _ (q : Question) where
+  -- a line that is read leaves what was decided, or decides by its own rule
+  read-by : (d d′ : Option Decision) (l : Line) → lineRead q d l ≡ value d′ → (r : Option Rule) × (orElse d (bind r (decidedBy q (l .number))) ≡ d′)
+  unfolding lineRead
+  read-by d d′ l e = let x = and-then (ruleIn (l .bytes)) _ d′ e in (x .0, same-value (x .2))
+
+  own-line : (n : ℕ) (r : Option Rule) (d : Decision) → bind r (decidedBy q n) ≡ some d → d .line ≡ n
+  unfolding bind
+  own-line n none d e = clash cc
+  own-line n (some r) d e = by (applies q r) e
+    where
+      by : (x : Bool) → cond x (some (record { line = n; action = r .action })) none ≡ some d → d .line ≡ n
+      by true f = let z : record { line = n; action = r .action } ≡ d = cc in sym (ap (λ y. y .line) z)
+      by false f = clash cc
+
+  pub once : Decides (lineRead q) (λ d. d) (λ d. d .line)
+  unfolding orElse
+  once = record {
+    keeps = λ d d′ l m e f. let x = read-by d d′ l f in sym (x .1) ∙ ap (λ o. orElse o (bind (x .0) (decidedBy q (l .number)))) e;
+    fresh = λ d d′ l m e f g. let x = read-by d d′ l f in own-line (l .number) (x .0) m (sym (ap (λ o. orElse o (bind (x .0) (decidedBy q (l .number)))) e) ∙ x .1 ∙ g);
+  }

@@ -2,16 +2,12 @@
 use mathlib.Core.Path.{_≡_, sym}
 use mathlib.Core.Bool.{Bool, true, false, not, cond}
 use mathlib.Core.List.{List, [], _∷_}
-use Prim.Native.Nat.{ℕ, _+_, _-_, _<_, _≤_}
-use lib.ListN.{length, take, drop}
+use Prim.Native.Nat.{ℕ}
 use Rattle.text.specs.Bytes.{bytes}
 use Rattle.text.specs.Lists.{all, any, splitAt}
 use Rattle.text.specs.Slice.{same}
-use Rattle.text.specs.Contract.{lead}
 use Rattle.text.proofs.Laws.{either-no}
-use Rattle.question.specs.Contract.{stringsIn}
 use Rattle.question.specs.Question.{goodName}
-use Rattle.question.proofs.ZeroEnded.{in-at, in-open, in-end}
 use Rattle.suauth.specs.declared.names.Meant.the-variants.{Malformed, Applies}
 use Rattle.suauth.specs.Rule.{reserved, listName, listIn}
 use Rattle.suauth.specs.Meaning.{anyOf, holds}
@@ -39,25 +35,6 @@ module _ (p : List ℕ) where
   pub name-good : goodName 32 p ≡ true → not (reserved p) ≡ listName p
   unfolding listName
   name-good e = rw e
-
--- ---- the groups from a place on, with `end` where the first of them ends
-module _ (f : List ℕ → Bool) (s : List ℕ) (from end : ℕ) (e : end ≡ from + lead 0 (drop from s)) where
-  pub groups-open : end ≡ length s → false ≡ any f (stringsIn (drop from s))
-  unfolding any
-  groups-open h = rw (in-open s from end e h)
-
-  module _ (h : end < length s) where
-    pub groups-hit : f (take (end - from) (drop from s)) ≡ true → true ≡ any f (stringsIn (drop from s))
-    unfolding any
-    groups-hit t = rw (in-at s from end e h, t)
-
-    pub groups-on : f (take (end - from) (drop from s)) ≡ false → any f (stringsIn (drop (end + 1) s)) ≡ any f (stringsIn (drop from s))
-    unfolding any
-    groups-on t = rw (in-at s from end e h, t)
-
-pub groups-end : (f : List ℕ → Bool) (s : List ℕ) (i : ℕ) → length s ≤ i → false ≡ any f (stringsIn (drop i s))
-unfolding any
-groups-end f s i h = rw (in-end s i h)
 
 -- the one who is asked about: one of the groups, or the user
 module _ (name user : List ℕ) (groups : List (List ℕ)) (grouped : Bool) where

@@ -7,7 +7,7 @@ use Prim.Native.Nat.{ℕ, _+_, _-_, _≤_, _<_}
 use native.Mathlib.Omega.{arith}
 use lib.ListN.{length, take, drop}
 use Rattle.text.specs.Bytes.{bytes}
-use Rattle.text.specs.Lists.{null, splitAt}
+use Rattle.text.specs.Lists.{splitAt}
 use Rattle.text.specs.Slice.{same, headIs}
 use Rattle.text.specs.Contract.{lead}
 use Rattle.text.proofs.Laws.{clash, part-rest}
@@ -18,7 +18,8 @@ use Rattle.suauth.specs.declared.names.Meant.the-variants.{Malformed, Ap
 use Rattle.suauth.specs.Rule.{Ids, idsIn, actionIn, ruleOf, partsRule, textRule}
 use Rattle.suauth.specs.Meaning.{Question, means, applies}
 use Rattle.suauth.specs.Contract.{idsTold, actionTold, whenApplies, lineTells}
-use Rattle.suauth.proofs.PartLaws.{split-some}
+use Rattle.text.proofs.Lists.{filled}
+use Rattle.text.proofs.Splits.{split-some}
 use Rattle.suauth.specs.declared.rule.ActionRead.the-variants.{Malformed as BadAction, Good}
 use Rattle.suauth.specs.declared.rule.LineTold.the-variants.{Malformed as BadLine, Nothing as NoneHere}
 
@@ -92,10 +93,6 @@ pub text-none : (q : Question) (s : List ℕ) → length s ≡ 0 → NoneHere �
 unfolding lineTells textRule
 text-none q [] h = refl
 text-none q (b ∷ s) h = absurd (omega arith)
-
-filled : (s : List ℕ) → (length s ≡ 0 → ⊥) → null s ≡ false
-filled [] n = absurd (n refl)
-filled (b ∷ s) n = refl
 
 module _ (q : Question) (s : List ℕ) (n : length s ≡ 0 → ⊥) where
   pub text-comment : headIs 35 s ≡ true → NoneHere ≡ lineTells q (textRule s)

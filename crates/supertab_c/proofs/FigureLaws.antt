@@ -28,7 +28,8 @@ module _ (old new : List ℤ) {r : Bool} (x : Clears old new r) where
   new-short e = let k = sym (x .answer) ∙ e in rw (k, x .numbers)
 
 -- ---- the records past the limit
-first-set : (old : List ℤ) (x : ℤ) → 1 ≤ length old → set old 0 x ≡ x ∷ drop 1 old
+-- a number stored at the front
+pub first-set : (old : List ℤ) (x : ℤ) → 1 ≤ length old → set old 0 x ≡ x ∷ drop 1 old
 first-set [] x h = absurd (omega arith)
 first-set (y ∷ old) x h = refl
 

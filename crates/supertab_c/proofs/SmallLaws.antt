@@ -1,4 +1,4 @@
--- A line, a place or an end that an answer to a table tells stands in the report as it is. Assumes nothing.
+-- A line, a place or an end that an answer from a table or a su file tells stands in the report as it is. Assumes nothing.
 use mathlib.Core.Path.{_≡_}
 use Prim.Native.Nat.{ℕ, _≤_, min}
 use native.Mathlib.Omega.{arith}
@@ -6,7 +6,7 @@ use lib.IntN.{pos}
 use Rattle.answer.specs.Answer.{tableLimit}
 use Rattle.supertab_c.specs.Report.{most, counted}
 
--- each of them is at most 32,768 (law `answer-within` of `record`)
+-- each of them is at most 32,768 (laws `answer-within` of `record` and `su-small`)
 pub counted-plain : (n : ℕ) → n ≤ tableLimit → counted n ≡ pos n
 unfolding counted
 counted-plain n h = let e : min n most ≡ n = omega arith in rw e

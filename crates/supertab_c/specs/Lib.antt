@@ -2,3 +2,4 @@ pub mod Report
 pub mod Call
 pub mod Record
 pub mod Figures
+pub mod Su

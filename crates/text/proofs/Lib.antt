@@ -5,3 +5,4 @@ pub mod Classes
 pub mod Numbers
 pub mod Slices
 pub mod Lists
+pub mod Splits

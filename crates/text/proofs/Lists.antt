@@ -9,7 +9,7 @@ use borrow.Author.Tests.{eq-eqb}
 use lib.Dec.{eqb}
 use lib.ListN.{length, take, drop, getD, drop-of-length-le}
 use lib.Seq.{take-nil}
-use Rattle.text.specs.Lists.{all, any, has}
+use Rattle.text.specs.Lists.{null, all, any, has}
 use Rattle.text.specs.Contract.{findByte}
 use Rattle.text.specs.Parts.{partAt}
 use Rattle.text.specs.declared.slice.Found.the-variants.{At, Nothing}
@@ -95,3 +95,8 @@ parted-found c s i e = rw (part-start i s, part-rest (i + 1) s) at (found-parts 
 
 pub parted-missing : (c : ℕ) (s : List ℕ) → findByte c 0 s ≡ Nothing → partAt c s ≡ none
 parted-missing c s e = found-none c s Nothing (sym e) refl
+
+-- a list that has an element
+pub filled : {A : Type 0} (s : List A) → (length s ≡ 0 → ⊥) → null s ≡ false
+filled [] n = absurd (n refl)
+filled (x ∷ s) n = refl

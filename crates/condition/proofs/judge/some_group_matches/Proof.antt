@@ -1,5 +1,5 @@
 use mathlib.Core.Path.{_≡_, refl, sym, _∙_}
-use Rattle.condition.proofs.JudgeLaws.{groups-on, groups-hit, groups-open, groups-end}
+use Rattle.question.proofs.ZeroEnded.{some-open, some-hit, some-on, some-end}
 use Rattle.glob.specs.Match.{matches}
 use Rattle.question.specs.Contract.{stringsIn}
 use Rattle.text.specs.Lists.{any}
@@ -27,7 +27,7 @@ string-end-requires : tie.Need-string-end-requires Inv-loop μ-loop
 string-end-requires c κs = search needs
 
 returns : tie.Need-returns Inv-loop μ-loop
-returns c = let l = c .before .before .before .loop in groups-open _ _ (l .from) _ (c .before .string-end .ensures .0) (c .if1 .taken) ∙ l .inv
+returns c = let l = c .before .before .before .loop in some-open _ (l .from) _ (c .before .string-end .ensures .0) _ (c .if1 .taken) ∙ l .inv
 
 sub-matches-expansion : tie.Need-sub-matches-expansion Inv-loop μ-loop
 sub-matches-expansion c = search needs
@@ -42,7 +42,7 @@ matches-expansion-requires : tie.Need-matches-expansion-requires Inv-loop μ-loo
 matches-expansion-requires c κs = search needs
 
 returns-2 : tie.Need-returns-2 Inv-loop μ-loop
-returns-2 c = let l = c .before .before .before .before .before .before .loop in let e = c .before .before .before .before .string-end .ensures in let h = e .2 (omega arith) in groups-hit _ _ (l .from) _ (e .0) (omega (arith, h, c .before .before .before .if1 .left)) (sym (c .before .matches-expansion .ensures) ∙ c .if2 .taken) ∙ l .inv
+returns-2 c = let l = c .before .before .before .before .before .before .loop in let e = c .before .before .before .before .string-end .ensures in let h = e .2 (omega arith) in some-hit _ (l .from) _ (e .0) _ (omega (arith, h, c .before .before .before .if1 .left)) (sym (c .before .matches-expansion .ensures) ∙ c .if2 .taken) ∙ l .inv
 
 add-from : tie.Need-add-from Inv-loop μ-loop
 add-from c = let h = c .before .before .before .before .string-end .ensures .2 (omega arith) in omega (arith, h, c .before .before .before .if1 .left)
@@ -51,10 +51,10 @@ loop-less : tie.Need-loop-less Inv-loop μ-loop
 loop-less c = search needs
 
 loop-again : tie.Need-loop-again Inv-loop μ-loop
-loop-again c = let l = c .before .before .before .before .before .before .loop in let e = c .before .before .before .before .string-end .ensures in let h = e .2 (omega arith) in groups-on _ _ (l .from) _ (e .0) (omega (arith, h, c .before .before .before .if1 .left)) (sym (c .before .matches-expansion .ensures) ∙ c .if2 .left) ∙ l .inv
+loop-again c = let l = c .before .before .before .before .before .before .loop in let e = c .before .before .before .before .string-end .ensures in let h = e .2 (omega arith) in some-on _ (l .from) _ (e .0) _ (omega (arith, h, c .before .before .before .if1 .left)) (sym (c .before .matches-expansion .ensures) ∙ c .if2 .left) ∙ l .inv
 
 returns-3 : tie.Need-returns-3 Inv-loop μ-loop
-returns-3 c = let l = c .before .loop in groups-end _ _ (l .from) (c .loop-test .left) ∙ l .inv
+returns-3 c = let l = c .before .loop in some-end _ (l .from) _ (c .loop-test .left) ∙ l .inv
 
 pub some-group-matches-spec : {M : Type 1} → statement M
 some-group-matches-spec =

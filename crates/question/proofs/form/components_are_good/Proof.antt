@@ -5,7 +5,7 @@ use borrow.Author.Needs.{needs}
 use borrow.Author.Tests.{not-true, not-false}
 use lib.ListN.{length, drop}
 use Rattle.question.specs.Question.{goodComponent}
-use Rattle.question.proofs.Forms.{components-last, components-off, components-on}
+use Rattle.text.proofs.Splits.{split-all-last, split-all-off, split-all-on}
 use Rattle.text.specs.Lists.{all, splitAt}
 use Rattle.question.proofs.form.components_are_good.Statement.{statement}
 use Rattle.question.proofs.form.components_are_good.Tie as tie
@@ -35,7 +35,7 @@ component-is-good-requires : tie.Need-component-is-good-requires Inv-loop μ-loo
 component-is-good-requires c κs = search needs
 
 returns : tie.Need-returns Inv-loop μ-loop
-returns c = let l = c .before .before .before .before .before .loop in components-last _ (l .from) _ (c .before .before .before .byte-from .ensures .0) (c .before .before .if1 .taken) (c .component-is-good .ensures) ∙ l .inv .1
+returns c = let l = c .before .before .before .before .before .loop in split-all-last goodComponent 47 _ (l .from) _ (c .before .before .before .byte-from .ensures .0) (c .before .before .if1 .taken) (c .component-is-good .ensures) ∙ l .inv .1
 
 sub-component-is-good-2 : tie.Need-sub-component-is-good-2 Inv-loop μ-loop
 sub-component-is-good-2 c = omega (arith, c .before .byte-from .ensures .1)
@@ -50,7 +50,7 @@ component-is-good-requires-2 : tie.Need-component-is-good-requires-2 Inv-loop μ
 component-is-good-requires-2 c κs = search needs
 
 returns-2 : tie.Need-returns-2 Inv-loop μ-loop
-returns-2 c = let l = c .before .before .before .before .before .before .loop in let e = c .before .before .before .before .byte-from .ensures in let h = e .2 (l .inv .0) in components-off _ (l .from) _ (e .0) (omega (arith, h, c .before .before .before .if1 .left)) (sym (c .before .component-is-good2 .ensures) ∙ not-true _ (c .if2 .taken)) ∙ l .inv .1
+returns-2 c = let l = c .before .before .before .before .before .before .loop in let e = c .before .before .before .before .byte-from .ensures in let h = e .2 (l .inv .0) in split-all-off goodComponent 47 _ (l .from) _ (e .0) (omega (arith, h, c .before .before .before .if1 .left)) (sym (c .before .component-is-good2 .ensures) ∙ not-true _ (c .if2 .taken)) ∙ l .inv .1
 
 add-from : tie.Need-add-from Inv-loop μ-loop
 add-from c = let h = c .before .before .before .before .byte-from .ensures .2 (c .before .before .before .before .before .before .loop .inv .0) in omega (arith, h, c .before .before .before .if1 .left)
@@ -59,7 +59,7 @@ loop-less : tie.Need-loop-less Inv-loop μ-loop
 loop-less c = let h = c .before .before .before .before .byte-from .ensures .2 (c .before .before .before .before .before .before .loop .inv .0) in omega (arith, h, c .before .before .before .if1 .left, c .before .before .before .before .byte-from .ensures .1)
 
 loop-again : tie.Need-loop-again Inv-loop μ-loop
-loop-again c = let l = c .before .before .before .before .before .before .loop in let e = c .before .before .before .before .byte-from .ensures in let h = e .2 (l .inv .0) in (omega (arith, h, c .before .before .before .if1 .left), components-on _ (l .from) _ (e .0) (omega (arith, h, c .before .before .before .if1 .left)) (sym (c .before .component-is-good2 .ensures) ∙ not-false _ (c .if2 .left)) ∙ l .inv .1)
+loop-again c = let l = c .before .before .before .before .before .before .loop in let e = c .before .before .before .before .byte-from .ensures in let h = e .2 (l .inv .0) in (omega (arith, h, c .before .before .before .if1 .left), split-all-on goodComponent 47 _ (l .from) _ (e .0) (omega (arith, h, c .before .before .before .if1 .left)) (sym (c .before .component-is-good2 .ensures) ∙ not-false _ (c .if2 .left)) ∙ l .inv .1)
 
 returns-3 : tie.Need-returns-3 Inv-loop μ-loop
 returns-3 c = absurd (omega (arith, c .before .loop .inv .0))

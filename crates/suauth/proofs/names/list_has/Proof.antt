@@ -9,7 +9,7 @@ use Rattle.text.specs.Lists.{any, splitAt}
 use Rattle.text.specs.Slice.{same}
 use Rattle.question.specs.Contract.{stringsIn}
 use Rattle.suauth.specs.Meaning.{anyOf}
-use Rattle.suauth.proofs.PartLaws.{any-last, any-off, any-on}
+use Rattle.text.proofs.Splits.{split-any-last, split-any-off, split-any-on}
 use Rattle.suauth.proofs.names.list_has.Statement.{statement}
 use Rattle.suauth.proofs.names.list_has.Tie as tie
 
@@ -39,7 +39,7 @@ is-asked-requires : tie.Need-is-asked-requires Inv-loop μ-loop
 is-asked-requires c κs = search needs
 
 returns : tie.Need-returns Inv-loop μ-loop
-returns c = let l = c .before .before .before .before .before .loop in let a = c .before .before .before .before .before .before .before .before .before .args in any-last (λ n. any (same n) (cond (a .grouped) (stringsIn (a .groups .now)) (a .user .now ∷ []))) 44 _ (l .from) _ (c .before .before .before .byte-from .ensures .0) (c .before .before .if1 .taken) (c .is-asked .ensures) ∙ l .inv .1
+returns c = let l = c .before .before .before .before .before .loop in let a = c .before .before .before .before .before .before .before .before .before .args in split-any-last (λ n. any (same n) (cond (a .grouped) (stringsIn (a .groups .now)) (a .user .now ∷ []))) 44 _ (l .from) _ (c .before .before .before .byte-from .ensures .0) (c .before .before .if1 .taken) (c .is-asked .ensures) ∙ l .inv .1
 
 sub-is-asked-2 : tie.Need-sub-is-asked-2 Inv-loop μ-loop
 sub-is-asked-2 c = omega (arith, c .before .byte-from .ensures .1)
@@ -54,7 +54,7 @@ is-asked-requires-2 : tie.Need-is-asked-requires-2 Inv-loop μ-loop
 is-asked-requires-2 c κs = search needs
 
 returns-2 : tie.Need-returns-2 Inv-loop μ-loop
-returns-2 c = let l = c .before .before .before .before .before .before .loop in let a = c .before .before .before .before .before .before .before .before .before .before .args in let e = c .before .before .before .before .byte-from .ensures in let h = e .2 (l .inv .0) in any-off (λ n. any (same n) (cond (a .grouped) (stringsIn (a .groups .now)) (a .user .now ∷ []))) 44 _ (l .from) _ (e .0) (omega (arith, h, c .before .before .before .if1 .left)) (sym (c .before .is-asked2 .ensures) ∙ c .if2 .taken) ∙ l .inv .1
+returns-2 c = let l = c .before .before .before .before .before .before .loop in let a = c .before .before .before .before .before .before .before .before .before .before .args in let e = c .before .before .before .before .byte-from .ensures in let h = e .2 (l .inv .0) in split-any-off (λ n. any (same n) (cond (a .grouped) (stringsIn (a .groups .now)) (a .user .now ∷ []))) 44 _ (l .from) _ (e .0) (omega (arith, h, c .before .before .before .if1 .left)) (sym (c .before .is-asked2 .ensures) ∙ c .if2 .taken) ∙ l .inv .1
 
 add-from : tie.Need-add-from Inv-loop μ-loop
 add-from c = let h = c .before .before .before .before .byte-from .ensures .2 (c .before .before .before .before .before .before .loop .inv .0) in omega (arith, h, c .before .before .before .if1 .left)
@@ -63,7 +63,7 @@ loop-less : tie.Need-loop-less Inv-loop μ-loop
 loop-less c = let h = c .before .before .before .before .byte-from .ensures .2 (c .before .before .before .before .before .before .loop .inv .0) in omega (arith, h, c .before .before .before .if1 .left, c .before .before .before .before .byte-from .ensures .1)
 
 loop-again : tie.Need-loop-again Inv-loop μ-loop
-loop-again c = let l = c .before .before .before .before .before .before .loop in let a = c .before .before .before .before .before .before .before .before .before .before .args in let e = c .before .before .before .before .byte-from .ensures in let h = e .2 (l .inv .0) in (omega (arith, h, c .before .before .before .if1 .left), any-on (λ n. any (same n) (cond (a .grouped) (stringsIn (a .groups .now)) (a .user .now ∷ []))) 44 _ (l .from) _ (e .0) (omega (arith, h, c .before .before .before .if1 .left)) (sym (c .before .is-asked2 .ensures) ∙ c .if2 .left) ∙ l .inv .1)
+loop-again c = let l = c .before .before .before .before .before .before .loop in let a = c .before .before .before .before .before .before .before .before .before .before .args in let e = c .before .before .before .before .byte-from .ensures in let h = e .2 (l .inv .0) in (omega (arith, h, c .before .before .before .if1 .left), split-any-on (λ n. any (same n) (cond (a .grouped) (stringsIn (a .groups .now)) (a .user .now ∷ []))) 44 _ (l .from) _ (e .0) (omega (arith, h, c .before .before .before .if1 .left)) (sym (c .before .is-asked2 .ensures) ∙ c .if2 .left) ∙ l .inv .1)
 
 returns-3 : tie.Need-returns-3 Inv-loop μ-loop
 returns-3 c = absurd (omega (arith, c .before .loop .inv .0))

@@ -24,29 +24,29 @@ split-some c (b ∷ s) = go (eqb b c) (split-some c s)
 -- a loop that tests each part, with `end` where the first of them ends
 module _ (f : List ℕ → Bool) (c : ℕ) (s : List ℕ) (from end : ℕ) (e : end ≡ from + lead c (drop from s)) where
   module _ {t : Bool} (q : end ≡ length s) (g : t ≡ f (take (length s - from) (drop from s))) where
-    pub all-last : t ≡ all f (splitAt c (drop from s))
+    pub split-all-last : t ≡ all f (splitAt c (drop from s))
     unfolding all
-    all-last = g ∙ rw (part-rest from s, split-last c s from end e (omega arith)) (sym (both-yes (f (drop from s))))
+    split-all-last = g ∙ rw (part-rest from s, split-last c s from end e (omega arith)) (sym (both-yes (f (drop from s))))
 
-    pub any-last : t ≡ any f (splitAt c (drop from s))
+    pub split-any-last : t ≡ any f (splitAt c (drop from s))
     unfolding any
-    any-last = g ∙ rw (part-rest from s, split-last c s from end e (omega arith)) (sym (either-no (f (drop from s))))
+    split-any-last = g ∙ rw (part-rest from s, split-last c s from end e (omega arith)) (sym (either-no (f (drop from s))))
 
   module _ (h : end < length s) where
     module _ (g : f (take (end - from) (drop from s)) ≡ false) where
-      pub all-off : false ≡ all f (splitAt c (drop from s))
+      pub split-all-off : false ≡ all f (splitAt c (drop from s))
       unfolding all
-      all-off = rw (split-at c s from end e h, g)
+      split-all-off = rw (split-at c s from end e h, g)
 
-      pub any-on : any f (splitAt c (drop (end + 1) s)) ≡ any f (splitAt c (drop from s))
+      pub split-any-on : any f (splitAt c (drop (end + 1) s)) ≡ any f (splitAt c (drop from s))
       unfolding any
-      any-on = rw (split-at c s from end e h, g)
+      split-any-on = rw (split-at c s from end e h, g)
 
     module _ (g : f (take (end - from) (drop from s)) ≡ true) where
-      pub all-on : all f (splitAt c (drop (end + 1) s)) ≡ all f (splitAt c (drop from s))
+      pub split-all-on : all f (splitAt c (drop (end + 1) s)) ≡ all f (splitAt c (drop from s))
       unfolding all
-      all-on = rw (split-at c s from end e h, g)
+      split-all-on = rw (split-at c s from end e h, g)
 
-      pub any-off : true ≡ any f (splitAt c (drop from s))
+      pub split-any-off : true ≡ any f (splitAt c (drop from s))
       unfolding any
-      any-off = rw (split-at c s from end e h, g)
+      split-any-off = rw (split-at c s from end e h, g)
