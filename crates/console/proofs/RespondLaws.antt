@@ -26,14 +26,14 @@ use Rattle.record.specs.declared.Recorded.{Recorded}
 use Rattle.record.specs.Stored.{known}
 use Rattle.record.specs.Write.{writtenOf, bytesAfter}
 use Rattle.record.specs.Decision.{fieldsBy, recordedOf, bytesRecorded, recordBytes}
-use Rattle.record.specs.Contract.{Records, bytesWritten}
+use Rattle.record.specs.Contract.{Records, recordWithin, bytesWritten}
 use Rattle.record.proofs.AppendLaws.{recorded-laid, recorded-count}
 use Rattle.console.specs.declared.respond.Answered.{Answered}
 use Rattle.console.specs.declared.respond.Response.the-variants.{Written}
 use Rattle.console.specs.QuestionLine.{askedIn}
 use Rattle.console.specs.Printed.{printed}
 use Rattle.console.specs.Console.{toldFor, outcomeFor, response, loggedFor, logged}
-use Rattle.console.specs.Contract.{part, askedBy, Placed, Reads, Answers, loggedWithin, Responds}
+use Rattle.console.specs.Contract.{part, askedBy, Placed, Reads, Answers, Responds}
 use Rattle.console.proofs.PartLaws.{fits}
 use Rattle.console.proofs.ResponseLaws.{response-length}
 
@@ -80,7 +80,7 @@ module _ (table line : List ℕ) {buffer : List ℕ} {a : Answered} (x : Answers
       go (some q) e = rw (x .outcome, e, x .asked q e .0, x .asked q e .1)
 
   pub recorded : {old new : List ℕ} {r : Recorded} {k : ℕ} → Records (result (a .answer) buffer) (a .minute) (a .last) old new r → k ≡ bytesWritten r
-      → (k ≡ length (loggedWithin (length old) table line)) × (new ≡ laid old 0 (loggedWithin (length old) table line))
+      → (k ≡ length (recordWithin (length old) (logged table line))) × (new ≡ laid old 0 (recordWithin (length old) (logged table line)))
   recorded {old} w e =
       let f : Fields = fieldsBy (result (a .answer) buffer) (a .minute) (a .last) in
       rw (← record-logged) (e ∙ ap bytesWritten (w .answer) ∙ recorded-count f old, w .bytes ∙ ap (λ r. bytesRecorded r old f) (w .answer) ∙ recorded-laid f old)
@@ -94,5 +94,5 @@ module _ (table line : List ℕ) {old new : List ℕ} {u : Told} {r : Filled} (w
   pub response-fits : r ≡ Full → ⊥
   response-fits f = fits wrote-response (omega (arith, response-length table line)) f
 
-  pub responded : {n k : ℕ} (oldLog newLog : List ℕ) → r ≡ Done n → (k ≡ length (loggedWithin (length oldLog) table line)) × (newLog ≡ laid oldLog 0 (loggedWithin (length oldLog) table line)) → Responds table line old new oldLog newLog (Written n k)
-  responded oldLog newLog f l = let d = wrote-done wrote-response f in (h, omega (arith, d .1), wrote-response .bytes, l .0, l .1)
+  pub responded : {n k : ℕ} (oldLog newLog : List ℕ) → r ≡ Done n → (k ≡ length (recordWithin (length oldLog) (logged table line))) × (newLog ≡ laid oldLog 0 (recordWithin (length oldLog) (logged table line))) → Responds table line old new oldLog newLog (Written n k)
+  responded oldLog newLog f l = let d = wrote-done wrote-response f in (h, response-length table line, omega (arith, d .1), wrote-response .bytes, l .0, l .1)

@@ -23,13 +23,13 @@ use Rattle.record.specs.Contract.{recordWithin}
 use Rattle.console.specs.Console.{outcomeFor, response, logged}
 use Rattle.console.specs.declared.respond.Answered.{Answered}
 use Rattle.console.specs.declared.respond.Response.{Response}
-use Rattle.console.specs.declared.respond.Response.the-variants.{Written, SmallBuffer as SmallRoom}
 use Rattle.console.specs.declared.«question_line».Magnitude.{Magnitude}
 use Rattle.console.specs.declared.«question_line».MinuteRead.{MinuteRead}
 use Rattle.console.specs.declared.«question_line».AgeRead.{AgeRead}
 use Rattle.console.specs.declared.«question_line».Ends.{Ends}
 use Rattle.console.specs.declared.«question_line».QuestionLine.{QuestionLine}
 use Rattle.console.specs.declared.«question_line».QuestionLine.the-variants.{Asks, Malformed}
+use Rattle.console.specs.declared.respond.Response.the-variants.{Written, SmallBuffer as SmallRoom}
 use Rattle.console.specs.declared.«question_line».Magnitude.the-variants.{Value, Malformed as NoNumber}
 use Rattle.console.specs.declared.«question_line».MinuteRead.the-variants.{Minute, Malformed as NoMinute}
 use Rattle.console.specs.declared.«question_line».AgeRead.the-variants.{Last, Malformed as NoAge}
@@ -140,13 +140,13 @@ pub record Answers (table line old new : List ℕ) (r : Answered) : Type 0 where
   pub outcome : result (r .answer) new ≡ outcomeFor table (askedIn line) old
   pub asked : (a : Asked) → askedIn line ≡ some a → (r .minute ≡ a .minute) × (r .last ≡ a .age)
 
--- what of a line's record is written into so many lent bytes
-abbrev pub loggedWithin : (length : ℕ) → (table line : List ℕ) → List ℕ
-loggedWithin n table line = recordWithin n (logged table line)
+-- the text, which is never longer than the least room, stands at the buffer's beginning and later bytes stay, and the record in its own bytes; or the buffer is too small and all stays
+abbrev pub Writes : (text recorded old new oldRecord newRecord : List ℕ) → Response → Type 0
+Writes text recorded old new oldRecord newRecord SmallRoom = (length old < leastRoom) × (new ≡ old) × (newRecord ≡ oldRecord)
+Writes text recorded old new oldRecord newRecord (Written n k) =
+    (leastRoom ≤ length old) × (length text ≤ leastRoom) × (n ≡ length text) × (new ≡ laid old 0 text)
+    × (k ≡ length (recordWithin (length oldRecord) recorded)) × (newRecord ≡ laid oldRecord 0 (recordWithin (length oldRecord) recorded))
 
--- the response stands at the buffer's beginning and later bytes stay, and the record in its own bytes; or the buffer is too small and all stays
+-- a line was answered from a table: the response, and the record of it
 abbrev pub Responds : (table line old new oldRecord newRecord : List ℕ) → Response → Type 0
-Responds table line old new oldRecord newRecord SmallRoom = (length old < leastRoom) × (new ≡ old) × (newRecord ≡ oldRecord)
-Responds table line old new oldRecord newRecord (Written n k) =
-    (leastRoom ≤ length old) × (n ≡ length (response table line)) × (new ≡ laid old 0 (response table line))
-    × (k ≡ length (loggedWithin (length oldRecord) table line)) × (newRecord ≡ laid oldRecord 0 (loggedWithin (length oldRecord) table line))
+Responds table line = Writes (response table line) (logged table line)

@@ -1,2 +1,3 @@
 pub mod LinesLaws
+pub mod SourceLaws
 pub mod Worked

@@ -2,7 +2,7 @@
 use mathlib.Core.Path.{_≡_, sym, ap, _∙_, subst}
 use mathlib.Core.Bool.{Bool, true, false, not, cond}
 use mathlib.Core.List.{List, [], _∷_, _++_}
-use Prim.Native.Nat.{ℕ, _+_, _-_, _≤_, _<_}
+use Prim.Native.Nat.{ℕ, _+_, _≤_, _<_}
 use native.Mathlib.Nat.{zero-add}
 use native.Mathlib.Omega.{arith}
 use native.Mathlib.Numerals.{add-one}
@@ -12,11 +12,9 @@ use Rattle.text.specs.Buffer.{laid}
 use Rattle.text.proofs.Laws.{clash}
 use Rattle.text.proofs.Buffers.{laid-length, laid-take}
 use Rattle.record.specs.Contract.{recordWithin}
-use Rattle.console.specs.Console.{response, logged}
-use Rattle.console.specs.Contract.{loggedWithin, Responds}
+use Rattle.console.specs.Contract.{Writes}
 use Rattle.console.specs.declared.respond.Response.{Response}
 use Rattle.console.specs.declared.respond.Response.the-variants.{Written, SmallBuffer}
-use Rattle.console.proofs.ResponseLaws.{response-length, logged-length}
 
 -- a run that does not go on does not
 pub goes-on : {A : Type 0} {t : Bool} → not t ≡ true → t ≡ true → A
@@ -66,30 +64,30 @@ within-is n true l e = rw e
 within-is n false l e = rw e
 
 -- what a response tells of its buffer and of the bytes lent for its record
-module _ (table line old new oldLog newLog : List ℕ) {r : Response} {n k : ℕ} (h : Responds table line old new oldLog newLog r) (e : r ≡ Written n k) where
-  told : Responds table line old new oldLog newLog (Written n k)
-  told = subst (Responds table line old new oldLog newLog) e h
+module _ (text recorded old new oldLog newLog : List ℕ) {r : Response} {n k : ℕ} (h : Writes text recorded old new oldLog newLog r) (e : r ≡ Written n k) where
+  told : Writes text recorded old new oldLog newLog (Written n k)
+  told = subst (Writes text recorded old new oldLog newLog) e h
 
   -- a response has no more bytes than the room that is made for it
   pub response-room : n ≤ 2048
-  response-room = omega (arith, told .1, response-length table line)
+  response-room = omega (arith, told .1, told .2)
 
   -- the response stands behind what was there in front of its part of the buffer
-  pub response-behind : (out rest : List ℕ) (a : ℕ) → a ≤ length out → take (a + n) (take a out ++ (new ++ rest)) ≡ take a out ++ response table line
-  response-behind = laid-behind old new (response table line) n (told .2) (told .1) (omega (arith, told .0, response-length table line))
+  pub response-behind : (out rest : List ℕ) (a : ℕ) → a ≤ length out → take (a + n) (take a out ++ (new ++ rest)) ≡ take a out ++ text
+  response-behind = laid-behind old new text n (told .3) (told .2) (omega (arith, told .0, told .1))
 
-  module _ (on : Bool) (q : length oldLog ≡ cond on 8 0) where
-    lent : length (loggedWithin (length oldLog) table line) ≤ length oldLog
-    lent = within-length (length oldLog) on (logged table line) q (logged-length table line)
+  module _ (short : length recorded ≤ 8) (on : Bool) (q : length oldLog ≡ cond on 8 0) where
+    lent : length (recordWithin (length oldLog) recorded) ≤ length oldLog
+    lent = within-length (length oldLog) on recorded q short
 
     -- a record has no more bytes than were lent for it
     pub record-room : k ≤ length oldLog
-    record-room = omega (arith, told .3, lent)
+    record-room = omega (arith, told .4, lent)
 
     -- the record stands behind those that wait
-    pub record-behind : (out rest : List ℕ) (a : ℕ) → a ≤ length out → take (a + k) (take a out ++ (newLog ++ rest)) ≡ take a out ++ cond on (logged table line) []
-    record-behind out rest a j = laid-behind oldLog newLog (loggedWithin (length oldLog) table line) k (told .4) (told .3) lent out rest a j ∙ ap (λ (m : List ℕ). take a out ++ m) (within-is (length oldLog) on (logged table line) q)
+    pub record-behind : (out rest : List ℕ) (a : ℕ) → a ≤ length out → take (a + k) (take a out ++ (newLog ++ rest)) ≡ take a out ++ cond on recorded []
+    record-behind out rest a j = laid-behind oldLog newLog (recordWithin (length oldLog) recorded) k (told .5) (told .4) lent out rest a j ∙ ap (λ (m : List ℕ). take a out ++ m) (within-is (length oldLog) on recorded q)
 
 -- only a buffer without that room is too small
-pub small-buffer : (table line old new oldLog newLog : List ℕ) {r : Response} → Responds table line old new oldLog newLog r → r ≡ SmallBuffer → length old < 2048
-small-buffer table line old new oldLog newLog h e = subst (Responds table line old new oldLog newLog) e h .0
+pub small-buffer : (text recorded old new oldLog newLog : List ℕ) {r : Response} → Writes text recorded old new oldLog newLog r → r ≡ SmallBuffer → length old < 2048
+small-buffer text recorded old new oldLog newLog h e = subst (Writes text recorded old new oldLog newLog) e h .0

@@ -1,2 +1,3 @@
 // A run of the program over question lines.
 pub mod lines; // question lines and their answers, block by block
+pub mod source; // what they are answered from

@@ -1,6 +1,7 @@
 // Question lines from standard input, their answers and the records of these, block by block.
+use super::source::Source;
+use super::source::respond_from;
 use console::respond::Response;
-use console::respond::respond;
 use libc::STDIN_FILENO;
 use log::file::Log;
 use record::Record;
@@ -94,22 +95,24 @@ fn record_end(log: Log) -> usize
 
 // Puts the answer to the line that ends here behind those that wait, and its record behind the others.
 fn add_answer(
-    table: &[u8],
+    source: Source,
+    file: &[u8],
     line: &[u8],
     out: &mut [u8],
     records: &mut [u8],
     progress: Progress,
 ) -> Progress
     requires { ⌜ (progress .length ≤ length (now line)) × (progress .waiting + 2048 ≤ length (now out)) × (progress .log .waiting + 8 ≤ length (now records)) ⌝ }
-    ensures { λ r. ⌜ Held (length (now (out .exit))) (length (now (records .exit))) r × Put (now (table .entry)) (now (line .entry)) (now (out .entry)) (now (out .exit)) (now (records .entry)) (now (records .exit)) progress r ⌝ }
+    ensures { λ r. ⌜ Held (length (now (out .exit))) (length (now (records .exit))) r × Put source (now (file .entry)) (now (line .entry)) (now (out .entry)) (now (out .exit)) (now (records .entry)) (now (records .exit)) progress r ⌝ }
 {
     let length = progress.length;
     let waiting = progress.waiting;
     let log = progress.log;
     let from = log.waiting;
     let end = record_end(log);
-    match respond(
-        table,
+    match respond_from(
+        source,
+        file,
         &line[0..length],
         &mut out[waiting..],
         &mut records[from..end],
@@ -127,7 +130,8 @@ fn add_answer(
 // Answers the line that ends here.
 fn end_line(
     name: &[u8],
-    table: &[u8],
+    source: Source,
+    file: &[u8],
     line: &[u8],
     out: &mut [u8],
     records: &mut [u8],
@@ -135,13 +139,13 @@ fn end_line(
 ) -> Progress
     requires { ⌜ Within (length (now line)) (length (now out)) (length (now records)) progress ⌝ }
     ensures { λ r. ⌜ Within (length (now (line .entry))) (length (now (out .exit))) (length (now (records .exit))) r ⌝ }
-    ensures { λ r. ⌜ (r .going ≡ true → Answered (now (table .entry)) (now (line .entry)) (now (out .entry)) (now (out .exit)) (now (records .entry)) (now (records .exit)) progress r) ⌝ }
+    ensures { λ r. ⌜ (r .going ≡ true → Answered source (now (file .entry)) (now (line .entry)) (now (out .entry)) (now (out .exit)) (now (records .entry)) (now (records .exit)) progress r) ⌝ }
 {
     let ready = make_room(name, out, records, progress);
     if !ready.going {
         return ready;
     }
-    add_answer(table, line, out, records, ready)
+    add_answer(source, file, line, out, records, ready)
 }
 
 // Keeps a byte of the line that is being read, where there is room.
@@ -167,7 +171,8 @@ fn add_byte(line: &mut [u8], progress: Progress, b: u8) -> Progress
 fn take_byte(
     b: u8,
     name: &[u8],
-    table: &[u8],
+    source: Source,
+    file: &[u8],
     line: &mut [u8],
     out: &mut [u8],
     records: &mut [u8],
@@ -177,7 +182,7 @@ fn take_byte(
     ensures { λ r. ⌜ Within (length (now (line .exit))) (length (now (out .exit))) (length (now (records .exit))) r ⌝ }
 {
     if b == b'\n' {
-        return end_line(name, table, line, out, records, progress);
+        return end_line(name, source, file, line, out, records, progress);
     }
     add_byte(line, progress, b)
 }
@@ -185,7 +190,8 @@ fn take_byte(
 fn take_block(
     block: &[u8],
     name: &[u8],
-    table: &[u8],
+    source: Source,
+    file: &[u8],
     line: &mut [u8],
     out: &mut [u8],
     records: &mut [u8],
@@ -197,7 +203,7 @@ fn take_block(
     let mut progress = start;
     let mut i = 0;
     while i < block.len() && progress.going {
-        progress = take_byte(block[i], name, table, line, out, records, progress);
+        progress = take_byte(block[i], name, source, file, line, out, records, progress);
         i += 1;
     }
     progress
@@ -206,7 +212,8 @@ fn take_block(
 // Answers a last line that has no newline.
 fn finish(
     name: &[u8],
-    table: &[u8],
+    source: Source,
+    file: &[u8],
     line: &[u8],
     out: &mut [u8],
     records: &mut [u8],
@@ -218,7 +225,7 @@ fn finish(
     if progress.length == 0 {
         return progress.stopped();
     }
-    let answered = end_line(name, table, line, out, records, progress);
+    let answered = end_line(name, source, file, line, out, records, progress);
     let written = write_waiting(name, out, records, answered);
     written.stopped()
 }
@@ -226,7 +233,8 @@ fn finish(
 // Reads once, and answers the lines that end there before more is read.
 fn read_block(
     name: &[u8],
-    table: &[u8],
+    source: Source,
+    file: &[u8],
     line: &mut [u8],
     out: &mut [u8],
     records: &mut [u8],
@@ -243,9 +251,18 @@ fn read_block(
         }
         Loaded::Bytes(n) => {
             if n == 0 {
-                return finish(name, table, line, out, records, progress);
+                return finish(name, source, file, line, out, records, progress);
             }
-            let taken = take_block(&block[..n], name, table, line, out, records, progress);
+            let taken = take_block(
+                &block[..n],
+                name,
+                source,
+                file,
+                line,
+                out,
+                records,
+                progress,
+            );
             write_waiting(name, out, records, taken)
         }
     }
@@ -254,7 +271,8 @@ fn read_block(
 // Nothing says that the input ends, so the turns are counted down from a number that no run uses up.
 fn read_lines(
     name: &[u8],
-    table: &[u8],
+    source: Source,
+    file: &[u8],
     line: &mut [u8],
     out: &mut [u8],
     records: &mut [u8],
@@ -270,15 +288,15 @@ fn read_lines(
     };
     let mut turns = u64::MAX;
     while turns > 0 && progress.going {
-        progress = read_block(name, table, line, out, records, progress);
+        progress = read_block(name, source, file, line, out, records, progress);
         turns -= 1;
     }
 }
 
-// Answers each question line of standard input, and appends the records of the answers to a log of this name.
-pub fn answer_lines(table: &[u8], log: Log, name: &[u8]) {
+// Answers each question line of standard input from a file of this kind, and appends the records of the answers to a log of this name.
+pub fn answer_lines(source: Source, file: &[u8], log: Log, name: &[u8]) {
     let mut line = line_buffer();
     let mut out = io::large_buffer();
     let mut records = io::large_buffer();
-    read_lines(name, table, &mut line, &mut out, &mut records, log);
+    read_lines(name, source, file, &mut line, &mut out, &mut records, log);
 }

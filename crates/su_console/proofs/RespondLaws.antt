@@ -5,6 +5,7 @@ use mathlib.Core.Option.{none}
 use Prim.Native.Nat.{ℕ, _+_, _≤_}
 use native.Mathlib.Omega.{arith}
 use lib.ListN.{length}
+use Rattle.text.specs.Buffer.{laid}
 use Rattle.text.specs.Contract.{Wrote}
 use Rattle.text.specs.declared.buffer.Filled.{Filled}
 use Rattle.text.specs.declared.buffer.Filled.the-variants.{Done, Full}
@@ -13,6 +14,7 @@ use Rattle.suauth.specs.declared.SuAnswer.{SuAnswer}
 use Rattle.suauth.specs.declared.SuAnswer.the-variants.{MalformedQuestion}
 use Rattle.suauth.specs.Answer.{toldOf}
 use Rattle.suauth.specs.Meaning.{answerOf}
+use Rattle.record.specs.Contract.{recordWithin}
 use Rattle.console.specs.Contract.{part, leastRoom}
 use Rattle.console.specs.declared.respond.Response.the-variants.{Written}
 use Rattle.console.proofs.PartLaws.{fits}
@@ -45,7 +47,7 @@ module _ (file line : List ℕ) {old new : List ℕ} {a : SuAnswer} {r : Filled}
   response-fits f = fits (w .0) (omega (arith, w .1)) f
 
   pub responded : {n : ℕ} → r ≡ Done n → SuResponds file line old new (Written n 0)
-  unfolding suResponse
+  unfolding suResponse recordWithin laid
   responded f =
       let d = wrote-done (w .0) f in
-      (h, rw (← e) (omega (arith, d .1)), rw (← e) (w .0 .bytes), refl)
+      (h, rw (← e) (w .1), rw (← e) (omega (arith, d .1)), rw (← e) (w .0 .bytes), refl, refl)

@@ -1,15 +1,13 @@
 -- What the contracts of the functions say: where the pieces of a line are, and what `respond_su` leaves in the buffer.
 use mathlib.Core.Path.{_≡_}
-use mathlib.Core.List.{List}
+use mathlib.Core.List.{List, []}
 use mathlib.Core.Option.{Option, none, some}
 use Prim.Native.Nat.{ℕ, _+_, _≤_, _<_}
 use lib.ListN.{length}
-use Rattle.text.specs.Buffer.{laid}
 use Rattle.suauth.specs.Meaning.{Asked}
 use Rattle.console.specs.QuestionLine.{lineLimit}
-use Rattle.console.specs.Contract.{part, leastRoom}
+use Rattle.console.specs.Contract.{part, Writes}
 use Rattle.console.specs.declared.respond.Response.{Response}
-use Rattle.console.specs.declared.respond.Response.the-variants.{Written, SmallBuffer as SmallRoom}
 use Rattle.su_console.specs.Response.{suResponse}
 use Rattle.su_console.specs.declared.«question_line».SuQuestionLine.{SuQuestionLine}
 use Rattle.su_console.specs.declared.«question_line».SuQuestionLine.the-variants.{Asks, Malformed}
@@ -34,7 +32,6 @@ pub record SuReads (line : List ℕ) (asked : Option Asked) (scratch : List ℕ)
   pub asks : suAskedBy line scratch r ≡ asked
   pub placed : SuPlaced line r
 
--- the response stands at the buffer's beginning, later bytes stay, and there is no record; or the buffer is too small and all stays
+-- a line was answered from a su file: the response, and no record
 abbrev pub SuResponds : (file line old new : List ℕ) → Response → Type 0
-SuResponds file line old new SmallRoom = (length old < leastRoom) × (new ≡ old)
-SuResponds file line old new (Written n k) = (leastRoom ≤ length old) × (n ≡ length (suResponse file line)) × (new ≡ laid old 0 (suResponse file line)) × (k ≡ 0)
+SuResponds file line old new = Writes (suResponse file line) [] old new [] []

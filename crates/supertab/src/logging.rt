@@ -1,11 +1,13 @@
 // Answers with a log, and what is printed of one.
-use super::arguments::LogView;
-use super::table;
+use checker::file::file_buffer;
+use checker::file::load;
+use command_line::request::LogView;
 use libc::STDIN_FILENO;
 use log::file::Log;
 use log::file::open;
 use log::show::show;
 use responder::lines::answer_lines;
+use responder::source::Source;
 use streams::input::Loaded;
 use streams::input::load_name;
 use streams::message;
@@ -16,10 +18,10 @@ use text::slice::equal;
 fn answer_logged(table: &[u8], i: usize) {
     let mut name = io::buffer();
     match load_name(i, b"the name of the log", &mut name) {
-        Loaded::Failed => answer_lines(table, Log::none(), b""),
+        Loaded::Failed => answer_lines(Source::Table, table, Log::none(), b""),
         Loaded::Bytes(n) => {
             let opened = open(&name[..n]);
-            answer_lines(table, opened, &name[..n]);
+            answer_lines(Source::Table, table, opened, &name[..n]);
         }
     }
 }
@@ -27,8 +29,8 @@ fn answer_logged(table: &[u8], i: usize) {
 // Answers the questions of standard input, with the log and the table that these arguments name. The table is read
 // before the log is opened, so that a wrong table leaves no log behind.
 pub fn answer(i: usize, j: usize) {
-    let mut bytes = table::table_buffer();
-    let Loaded::Bytes(n) = table::load(j, &mut bytes) else {
+    let mut bytes = file_buffer();
+    let Loaded::Bytes(n) = load(j, b"the name of the table", &mut bytes) else {
         return;
     };
     answer_logged(&bytes[..n], i);

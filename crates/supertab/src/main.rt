@@ -1,57 +1,71 @@
-// The program: answers question lines from a table, checks a table, keeps a log, prints one and its figures.
-mod arguments; // what the arguments ask for
-mod check; // what --check prints
+// The program: answers question lines from a table or a su file, checks one, keeps a log, prints one and its figures.
 mod logging; // answers with a log, and what is printed of one
-mod table; // the table, from the file that an argument names
 
-use arguments::Request;
-use arguments::requested;
+use checker::file::file_buffer;
+use checker::file::load;
+use checker::su;
+use checker::table;
+use command_line::request::Request;
+use command_line::request::requested;
 use log::file::Log;
 use responder::lines::answer_lines;
+use responder::source::Source;
 use streams::input::Loaded;
 use streams::message;
 use streams::standard_output;
 
-// Answers the questions of standard input.
-fn answer(i: usize) {
-    let mut bytes = table::table_buffer();
-    let Loaded::Bytes(n) = table::load(i, &mut bytes) else {
+// Answers the questions of standard input from the file that an argument names, which is of this kind; a name that cannot
+// be had is told by what it is the name of.
+fn answer(source: Source, i: usize, what: &[u8]) {
+    let mut bytes = file_buffer();
+    let Loaded::Bytes(n) = load(i, what, &mut bytes) else {
         return;
     };
-    answer_lines(&bytes[..n], Log::none(), b"");
+    answer_lines(source, &bytes[..n], Log::none(), b"");
 }
 
 fn help() {
     standard_output::print(
         b"supertab TABLE < QUESTIONS             print an answer for each question line\n\
         supertab --log FILE TABLE < QUESTIONS  the same, and append a record of each answer to the file\n\
+        supertab --su FILE < QUESTIONS         print an answer from a su file for each question line\n\
         supertab --read-log FILE               print the records of a log, NUMBER LINE MINUTE AUTH AGE\n\
         supertab --figures FILE                print how many of its records there are of each answer, weekday and hour\n\
         supertab --check TABLE [QUESTION]      tell whether the table is good, or where it is not and why\n\
+        supertab --check --su FILE             tell the same of a su file\n\
         supertab --help                        print this\n\
         supertab --version                     print the version\n\
-        A question line is COMMAND USER GROUPS HOST MINUTE AGE ARGS. --check - reads the table, and --read-log - and --figures - the log,\n\
-        from standard input. Behind -- the name of a table or of a log that is read may begin with -.\n",
+        A question line is COMMAND USER GROUPS HOST MINUTE AGE ARGS, and TARGET USER GROUPS where a su file answers. --check - and\n\
+        --check --su - read the file, and --read-log - and --figures - the log, from standard input. Behind -- the name of a table, of a\n\
+        su file or of a log that is read may begin with -.\n",
     );
 }
 
 fn main() {
     match requested() {
-        Request::Answer(i) => answer(i),
+        Request::Answer(i) => answer(Source::Table, i, b"the name of the table"),
         Request::AnswerWithLog(i, j) => logging::answer(i, j),
+        Request::AnswerSu(i) => answer(Source::SuFile, i, b"the name of the su file"),
         Request::ReadLog(view, i) => logging::read(view, i),
-        Request::Check(i) => check::check(i),
-        Request::CheckWith(i) => check::check_with(i),
+        Request::Check(i) => table::check(i),
+        Request::CheckWith(i) => table::check_with(i),
+        Request::CheckSu(i) => su::check(i),
         Request::Help => help(),
         Request::Version => {
             standard_output::print(b"supertab 0.1.0\n");
         }
         Request::NoTable => message::tell(b"no table is named; supertab --help tells the uses"),
+        Request::NoSuFile => message::tell(b"no su file is named; supertab --help tells the uses"),
         Request::NoLog => message::tell(b"no log is named; supertab --help tells the uses"),
         Request::LogToOutput => message::tell(b"-: the log must be a file"),
         Request::TableFromInput => {
             message::tell(
                 b"-: the questions are read from standard input, so the table must be a file",
+            )
+        }
+        Request::SuFileFromInput => {
+            message::tell(
+                b"-: the questions are read from standard input, so the su file must be a file",
             )
         }
         Request::UnknownOption(i) => message::tell_of(

@@ -1,10 +1,10 @@
-use Rattle.streams.proofs.InputLaws.{loaded-bytes}
 use borrow.Author.Needs.{needs}
+use Rattle.streams.proofs.InputLaws.{loaded-bytes}
 use Rattle.supertab.proofs.answer.Statement.{statement}
 use Rattle.supertab.proofs.answer.Tie as tie
 
-table-buffer-requires : tie.Need-table-buffer-requires
-table-buffer-requires c κs = search needs
+file-buffer-requires : tie.Need-file-buffer-requires
+file-buffer-requires c κs = search needs
 
 slice-aggregate-load : tie.Need-slice-aggregate-load
 slice-aggregate-load c = search needs
@@ -43,7 +43,7 @@ pub answer-spec : {M : Type 1} → statement M
 answer-spec =
     tie.close
     (tie.spec
-    table-buffer-requires
+    file-buffer-requires
     slice-aggregate-load
     load-requires
     enum-known-n

@@ -6,10 +6,10 @@ use Rattle.responder.proofs.lines.read_lines.Statement.{statement}
 use Rattle.responder.proofs.lines.read_lines.Tie as tie
 
 abbrev Inv-loop : tie.InvT-loop
-Inv-loop name table line₀ out₀ records₀ progress₀ turns₀ line out records progress turns = Within (length line) (length out) (length records) progress × (length line ≡ length line₀) × (length out ≡ length out₀) × (length records ≡ length records₀)
+Inv-loop name source file line₀ out₀ records₀ progress₀ turns₀ line out records progress turns = Within (length line) (length out) (length records) progress × (length line ≡ length line₀) × (length out ≡ length out₀) × (length records ≡ length records₀)
 
 abbrev μ-loop : tie.MeasureT-loop
-μ-loop name table line₀ out₀ records₀ progress₀ turns₀ line out records progress turns = turns
+μ-loop name source file line₀ out₀ records₀ progress₀ turns₀ line out records progress turns = turns
 
 with-waiting-requires : tie.Need-with-waiting-requires Inv-loop μ-loop
 with-waiting-requires c κs = search needs

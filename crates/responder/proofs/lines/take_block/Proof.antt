@@ -7,10 +7,10 @@ use Rattle.responder.proofs.lines.take_block.Statement.{statement}
 use Rattle.responder.proofs.lines.take_block.Tie as tie
 
 abbrev Inv-loop : tie.InvT-loop
-Inv-loop block name table line₀ out₀ records₀ progress₀ i₀ line out records progress i = (i ≤ length block) × Within (length line) (length out) (length records) progress × (length line ≡ length line₀) × (length out ≡ length out₀) × (length records ≡ length records₀)
+Inv-loop block name source file line₀ out₀ records₀ progress₀ i₀ line out records progress i = (i ≤ length block) × Within (length line) (length out) (length records) progress × (length line ≡ length line₀) × (length out ≡ length out₀) × (length records ≡ length records₀)
 
 abbrev μ-loop : tie.MeasureT-loop
-μ-loop block name table line₀ out₀ records₀ progress₀ i₀ line out records progress i = length block - i
+μ-loop block name source file line₀ out₀ records₀ progress₀ i₀ line out records progress i = length block - i
 
 loop-holds : tie.Need-loop-holds Inv-loop μ-loop
 loop-holds c = search needs

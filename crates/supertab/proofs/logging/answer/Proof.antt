@@ -3,11 +3,14 @@ use borrow.Author.Needs.{needs}
 use Rattle.supertab.proofs.logging.answer.Statement.{statement}
 use Rattle.supertab.proofs.logging.answer.Tie as tie
 
-table-buffer-requires : tie.Need-table-buffer-requires
-table-buffer-requires c κs = search needs
+file-buffer-requires : tie.Need-file-buffer-requires
+file-buffer-requires c κs = search needs
 
 slice-aggregate-load : tie.Need-slice-aggregate-load
 slice-aggregate-load c = search needs
+
+slice-aggregate-load-2 : tie.Need-slice-aggregate-load-2
+slice-aggregate-load-2 c = search needs
 
 load-requires : tie.Need-load-requires
 load-requires c κs = search needs
@@ -37,8 +40,9 @@ pub answer-spec : {M : Type 1} → statement M
 answer-spec =
     tie.close
     (tie.spec
-    table-buffer-requires
+    file-buffer-requires
     slice-aggregate-load
+    slice-aggregate-load-2
     load-requires
     enum-known-n
     enum-told

@@ -1,7 +1,7 @@
-use Rattle.streams.proofs.InputLaws.{loaded-bytes}
 use borrow.Author.Needs.{needs}
-use Rattle.supertab.proofs.table.load.Statement.{statement}
-use Rattle.supertab.proofs.table.load.Tie as tie
+use Rattle.streams.proofs.InputLaws.{loaded-bytes}
+use Rattle.checker.proofs.su.check.Statement.{statement}
+use Rattle.checker.proofs.su.check.Tie as tie
 
 buffer-requires : tie.Need-buffer-requires
 buffer-requires c κs = search needs
@@ -27,20 +27,17 @@ returns c = search needs
 array-share-prefix-name : tie.Need-array-share-prefix-name
 array-share-prefix-name c = loaded-bytes (c .before .before .before .before .load-name .ensures) (c .before .n .given .1) .0
 
-slice-aggregate-load-file : tie.Need-slice-aggregate-load-file
-slice-aggregate-load-file c = loaded-bytes (c .before .before .before .before .before .load-name .ensures) (c .before .before .n .given .1) .1
+slice-aggregate-check-named : tie.Need-slice-aggregate-check-named
+slice-aggregate-check-named c = loaded-bytes (c .before .before .before .before .before .load-name .ensures) (c .before .before .n .given .1) .1
 
-load-file-requires : tie.Need-load-file-requires
-load-file-requires c κs = search needs
-
-same-length : tie.Need-same-length
-same-length c = search needs
+check-named-requires : tie.Need-check-named-requires
+check-named-requires c κs = search needs
 
 returns-2 : tie.Need-returns-2
 returns-2 c = search needs
 
-pub load-spec : {M : Type 1} → statement M
-load-spec =
+pub check-spec : {M : Type 1} → statement M
+check-spec =
     tie.close
     (tie.spec
     buffer-requires
@@ -51,7 +48,6 @@ load-spec =
     enum-told
     returns
     array-share-prefix-name
-    slice-aggregate-load-file
-    load-file-requires
-    same-length
+    slice-aggregate-check-named
+    check-named-requires
     returns-2)

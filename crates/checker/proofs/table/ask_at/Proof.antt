@@ -1,7 +1,7 @@
-use Rattle.streams.proofs.InputLaws.{loaded-bytes}
 use borrow.Author.Needs.{needs}
-use Rattle.supertab.proofs.check.ask_at.Statement.{statement}
-use Rattle.supertab.proofs.check.ask_at.Tie as tie
+use Rattle.streams.proofs.InputLaws.{loaded-bytes}
+use Rattle.checker.proofs.table.ask_at.Statement.{statement}
+use Rattle.checker.proofs.table.ask_at.Tie as tie
 
 buffer-requires : tie.Need-buffer-requires
 buffer-requires c κs = search needs

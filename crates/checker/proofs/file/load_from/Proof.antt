@@ -1,7 +1,7 @@
 use borrow.Author.Needs.{needs}
 use Rattle.streams.proofs.InputLaws.{loaded-bytes, told-bytes}
-use Rattle.supertab.proofs.table.load_from.Statement.{statement}
-use Rattle.supertab.proofs.table.load_from.Tie as tie
+use Rattle.checker.proofs.file.load_from.Statement.{statement}
+use Rattle.checker.proofs.file.load_from.Tie as tie
 
 read-all-requires : tie.Need-read-all-requires
 read-all-requires c κs = search needs

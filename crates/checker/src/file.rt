@@ -1,14 +1,16 @@
-// The table, from the file that an argument names.
+// The bytes of a table or another file of its size, whole.
+use libc::STDIN_FILENO;
 use streams::input::Loaded;
 use streams::input::load_name;
 use streams::input::read_all;
 use streams::message;
+use text::slice::equal;
 ghost use mathlib.Core.Path.{_≡_};
 ghost use lib.ListN.{length};
 ghost use Rattle.streams.specs.Contract.{LoadedIn};
 
-// One byte more than a table may have, which is enough to see that it is too long.
-pub fn table_buffer() -> [u8; 32769]
+// One byte more than the file may have, which is enough to see that it is too long.
+pub fn file_buffer() -> [u8; 32769]
     ensures { λ r. ⌜ 32769 ≡ length r ⌝ }
 {
     [0; 32769]
@@ -41,12 +43,22 @@ pub fn load_file(name: &[u8], out: &mut [u8]) -> Loaded
     loaded
 }
 
-// The bytes of the file that an argument names.
-pub fn load(i: usize, out: &mut [u8]) -> Loaded
+// The bytes of the file of this name, `-` for standard input; a failure is told.
+pub fn load_named(name: &[u8], out: &mut [u8]) -> Loaded
+    ensures { λ r. ⌜ LoadedIn (now (out .exit)) r ⌝ }
+{
+    if equal(name, b"-") {
+        return load_from(STDIN_FILENO, b"standard input", out);
+    }
+    load_file(name, out)
+}
+
+// The bytes of the file that an argument names; a failure is told, that of the name by what it is the name of.
+pub fn load(i: usize, what: &[u8], out: &mut [u8]) -> Loaded
     ensures { λ r. ⌜ LoadedIn (now (out .exit)) r ⌝ }
 {
     let mut name = io::buffer();
-    let Loaded::Bytes(n) = load_name(i, b"the name of the table", &mut name) else {
+    let Loaded::Bytes(n) = load_name(i, what, &mut name) else {
         return Loaded::Failed;
     };
     load_file(&name[..n], out)

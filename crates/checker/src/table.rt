@@ -1,28 +1,17 @@
-// What --check prints.
-use super::table::load_file;
-use super::table::load_from;
-use super::table::table_buffer;
+// What --check prints of a table.
+use super::file::file_buffer;
+use super::file::load_named;
+use super::report::print_filled;
+use super::report::report_buffer;
 use answer::Answer;
 use console::respond::answer_line;
 use explain::report::explain;
-use libc::STDIN_FILENO;
 use streams::argument::argument;
 use streams::input::Loaded;
 use streams::input::load_name;
 use streams::message;
-use streams::standard_output::print;
-use text::buffer::Filled;
-use text::slice::equal;
 ghost use mathlib.Core.Path.{_≡_};
 ghost use lib.ListN.{length};
-ghost use Rattle.streams.specs.Contract.{LoadedIn};
-
-// The longest report: a name, words, and a line of 32,768 bytes with a caret below its end.
-fn report_buffer() -> [u8; 81920]
-    ensures { λ r. ⌜ 81920 ≡ length r ⌝ }
-{
-    [0; 81920]
-}
 
 // One byte more than a question line may have.
 fn question_buffer() -> [u8; 32769]
@@ -34,12 +23,8 @@ fn question_buffer() -> [u8; 32769]
 // Prints what was found in a table.
 fn print_report(name: &[u8], table: &[u8], answer: Answer) {
     let mut out = report_buffer();
-    match explain(name, table, answer, &mut out) {
-        Filled::Done(n) => {
-            print(&out[..n]);
-        }
-        Filled::Full => message::tell(b"the report is too long"),
-    }
+    let filled = explain(name, table, answer, &mut out);
+    print_filled(filled, &out);
 }
 
 // Asks the table the question; one that is none is told.
@@ -55,19 +40,9 @@ fn ask(name: &[u8], table: &[u8], line: &[u8]) {
     }
 }
 
-// The table of this name, `-` for standard input; a failure is told.
-fn load_named(name: &[u8], out: &mut [u8]) -> Loaded
-    ensures { λ r. ⌜ LoadedIn (now (out .exit)) r ⌝ }
-{
-    if equal(name, b"-") {
-        return load_from(STDIN_FILENO, b"standard input", out);
-    }
-    load_file(name, out)
-}
-
 // Asks the table of this name the question.
 fn ask_named(name: &[u8], line: &[u8]) {
-    let mut table = table_buffer();
+    let mut table = file_buffer();
     let Loaded::Bytes(n) = load_named(name, &mut table) else {
         return;
     };

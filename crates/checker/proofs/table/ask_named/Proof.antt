@@ -1,10 +1,10 @@
 use borrow.Author.Needs.{needs}
 use Rattle.streams.proofs.InputLaws.{loaded-bytes}
-use Rattle.supertab.proofs.check.ask_named.Statement.{statement}
-use Rattle.supertab.proofs.check.ask_named.Tie as tie
+use Rattle.checker.proofs.table.ask_named.Statement.{statement}
+use Rattle.checker.proofs.table.ask_named.Tie as tie
 
-table-buffer-requires : tie.Need-table-buffer-requires
-table-buffer-requires c κs = search needs
+file-buffer-requires : tie.Need-file-buffer-requires
+file-buffer-requires c κs = search needs
 
 slice-aggregate-load-named : tie.Need-slice-aggregate-load-named
 slice-aggregate-load-named c = search needs
@@ -37,7 +37,7 @@ pub ask-named-spec : {M : Type 1} → statement M
 ask-named-spec =
     tie.close
     (tie.spec
-    table-buffer-requires
+    file-buffer-requires
     slice-aggregate-load-named
     load-named-requires
     enum-known-n

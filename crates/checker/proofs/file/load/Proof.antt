@@ -1,0 +1,53 @@
+use borrow.Author.Needs.{needs}
+use Rattle.streams.proofs.InputLaws.{loaded-bytes}
+use Rattle.checker.proofs.file.load.Statement.{statement}
+use Rattle.checker.proofs.file.load.Tie as tie
+
+buffer-requires : tie.Need-buffer-requires
+buffer-requires c κs = search needs
+
+slice-aggregate-load-name : tie.Need-slice-aggregate-load-name
+slice-aggregate-load-name c = search needs
+
+load-name-requires : tie.Need-load-name-requires
+load-name-requires c κs = search needs
+
+enum-known-n : tie.Need-enum-known-n
+enum-known-n c = search needs
+
+enum-told : tie.Need-enum-told
+enum-told c = search needs
+
+returns : tie.Need-returns
+returns c = search needs
+
+array-share-prefix-name : tie.Need-array-share-prefix-name
+array-share-prefix-name c = loaded-bytes (c .before .before .before .before .load-name .ensures) (c .before .n .given .1) .0
+
+slice-aggregate-load-file : tie.Need-slice-aggregate-load-file
+slice-aggregate-load-file c = loaded-bytes (c .before .before .before .before .before .load-name .ensures) (c .before .before .n .given .1) .1
+
+load-file-requires : tie.Need-load-file-requires
+load-file-requires c κs = search needs
+
+same-length : tie.Need-same-length
+same-length c = search needs
+
+returns-2 : tie.Need-returns-2
+returns-2 c = search needs
+
+pub load-spec : {M : Type 1} → statement M
+load-spec =
+    tie.close
+    (tie.spec
+    buffer-requires
+    slice-aggregate-load-name
+    load-name-requires
+    enum-known-n
+    enum-told
+    returns
+    array-share-prefix-name
+    slice-aggregate-load-file
+    load-file-requires
+    same-length
+    returns-2)

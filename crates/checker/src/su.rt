@@ -1,0 +1,35 @@
+// What --check --su prints.
+use super::file::file_buffer;
+use super::file::load_named;
+use super::report::print_filled;
+use super::report::report_buffer;
+use streams::input::Loaded;
+use streams::input::load_name;
+use su_console::report::explain_su;
+use suauth::su_answer;
+
+// Asks the file a question, and prints what was found in it: it is good or not whatever is asked.
+fn print_report(name: &[u8], file: &[u8]) {
+    let mut out = report_buffer();
+    let answer = su_answer(file, b"root", b"root", b"");
+    let filled = explain_su(name, file, answer, &mut out);
+    print_filled(filled, &out);
+}
+
+// Checks the file of this name.
+fn check_named(name: &[u8]) {
+    let mut file = file_buffer();
+    let Loaded::Bytes(n) = load_named(name, &mut file) else {
+        return;
+    };
+    print_report(name, &file[..n]);
+}
+
+// Checks the su file that an argument names.
+pub fn check(i: usize) {
+    let mut name = io::buffer();
+    let Loaded::Bytes(n) = load_name(i, b"the name of the su file", &mut name) else {
+        return;
+    };
+    check_named(&name[..n]);
+}
