@@ -3,7 +3,6 @@ pub mod Keeping
 pub mod Packing
 pub mod Answers
 pub mod RoundTrip
-pub mod LinesWithin
 pub mod WithinLaws
 pub mod DecisionLaws
 pub mod AppendLaws

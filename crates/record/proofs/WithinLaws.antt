@@ -21,7 +21,7 @@ use Rattle.reader.specs.Read.{lineRead}
 use Rattle.reader.proofs.ReadLaws.{line-keeps}
 use Rattle.reader.proofs.ShortIds.{ShortVerdict, ShortDecision, ShortState, short-start, short-keeps}
 use Rattle.reader.proofs.ShortSettings.{ShortIds}
-use Rattle.record.proofs.LinesWithin.{LineWithin, ReadWithin, refused-place, outcome-within}
+use Rattle.line.proofs.WithinLaws.{LineWithin, ReadWithin, refused-place, outcome-within}
 use Rattle.answer.specs.Answer.{tableLimit, leastBuffer, result}
 use Rattle.answer.specs.Meaning.{Asked, asks, grantedBy, resolved, settled, linesGive, readBytes, readTable, answerOf}
 use Rattle.answer.specs.declared.Granted.{Granted}

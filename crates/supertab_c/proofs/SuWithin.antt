@@ -13,7 +13,7 @@ use Rattle.fault.proofs.Readings.{never, same-value}
 use Rattle.line.specs.Line.{Line, noByte}
 use Rattle.line.specs.Fold.{Refusal, faulty, cut}
 use Rattle.line.specs.Refused.{refusedByte}
-use Rattle.record.proofs.LinesWithin.{LineWithin, ReadWithin, refused-place, outcome-within}
+use Rattle.line.proofs.WithinLaws.{LineWithin, ReadWithin, refused-place, outcome-within}
 use Rattle.suauth.specs.declared.Action.{Action}
 use Rattle.suauth.specs.declared.Action.the-variants.{Deny, NoPassword, OwnPassword}
 use Rattle.suauth.specs.declared.SuAnswer.{SuAnswer}
