@@ -57,7 +57,7 @@ unfoldable pub holds : (user : List ℕ) → (groups : List (List ℕ)) → Name
 unfolding anyOf
 holds user groups n = anyOf (cond (n .grouped) groups (user ∷ [])) (n .names)
 
--- an id means this user with these groups; R: "`ALL EXCEPT GROUP g` applies to whoever has none of the groups"
+-- an id means this user with these groups; the rulings on 02: "`ALL EXCEPT GROUP g` applies to whoever has none of the groups"
 unfoldable pub means : (user : List ℕ) → (groups : List (List ℕ)) → Ids → Bool
 unfolding holds
 means user groups everyone = true
@@ -112,7 +112,7 @@ abbrev pub readFile : List ℕ → Option Question → SuAnswer
 readFile t none = MalformedQuestion
 readFile t (some q) = cond (leb (length t) fileLimit) (readBytes t q (refusedByte t)) LongFile
 
--- R: "Order: 10, 11, 12, then lines in order, the first faulty one; a cut line last"
+-- the rulings on 02: "Order: 10, 11, 12, then lines in order, the first faulty one; a cut line last"
 unfoldable pub answerOf : List ℕ → Asked → SuAnswer
 unfolding questionOf lineRead outcome refusedByte
 answerOf t a = readFile t (questionOf a)

@@ -12,7 +12,7 @@ use Rattle.suauth.specs.Meaning.{Asked, answerOf}
 use Rattle.supertab_c.specs.declared.su.SuTold.{SuTold}
 use Rattle.supertab_c.specs.Call.{shortReport}
 
--- the papers give the actions no numbers. R: "the header names its own: NOPASS 0, OWNPASS 1, no rule 2, DENY 3"
+-- the papers give the actions no numbers; the rulings on 02: "the header names its own: NOPASS 0, OWNPASS 1, no rule 2, DENY 3"
 abbrev pub actionNumber : Action → ℕ
 actionNumber NoPassword = 0
 actionNumber OwnPassword = 1
