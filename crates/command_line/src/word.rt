@@ -1,5 +1,8 @@
 // What an argument is where an option may stand.
 use text::slice::equal;
+use text::slice::head_is;
+ghost use mathlib.Core.Path.{_≡_};
+ghost use Rattle.command_line.specs.Word.{wordOf};
 
 pub enum Word {
     Check,
@@ -19,11 +22,10 @@ pub enum Word {
 }
 
 // The word of an option, or of an operand, which does not begin with `-`.
-fn word_of(text: &[u8]) -> Word {
-    if text.len() == 0 {
-        return Word::Operand;
-    }
-    if text[0] != b'-' {
+pub fn word_of(text: &[u8]) -> Word
+    ensures { λ r. ⌜ r ≡ wordOf (now (text .entry)) ⌝ }
+{
+    if !head_is(text, b'-') {
         return Word::Operand;
     }
     if equal(text, b"-") {
