@@ -20,10 +20,10 @@ fn question_buffer() -> [u8; 32769]
     [0; 32769]
 }
 
-// Prints what was found in a table.
-fn print_report(name: &[u8], table: &[u8], answer: Answer) {
+// Prints what was found in a table that was asked this question.
+fn print_report(name: &[u8], question: &[u8], table: &[u8], answer: Answer) {
     let mut out = report_buffer();
-    let filled = explain(name, table, answer, &mut out);
+    let filled = explain(name, question, table, answer, &mut out);
     print_filled(filled, &out);
 }
 
@@ -36,7 +36,7 @@ fn ask(name: &[u8], table: &[u8], line: &[u8]) {
         Answer::MalformedQuestion => {
             message::tell(b"this is no question; write COMMAND USER GROUPS HOST MINUTE AGE ARGS")
         }
-        _ => print_report(name, table, answer),
+        _ => print_report(name, line, table, answer),
     }
 }
 

@@ -16,8 +16,8 @@ use Rattle.output.specs.Contract.{WroteAfter}
 use Rattle.output.specs.Decimal.{decimal}
 use Rattle.explain.specs.Place.{lineNumber, lineStart, lineEnd, column, physicalLine, lineFront}
 use Rattle.explain.specs.Words.{wordsOf, refusedByteWords, cutShortWords}
-use Rattle.explain.specs.Explained.{shownIn, rows, position, refused, refusal, refusalAt, finding, explained, placeIn}
-use Rattle.explain.specs.declared.row.Row.the-variants.{Line, Caret}
+use Rattle.explain.specs.Explained.{shownIn, rows, position, refused, refusal, refusalAt, finding, explained, placeIn, shownName, okFor}
+use Rattle.explain.specs.declared.row.Row.the-variants.{Line, Caret, Name}
 use types.Run.{OneOf, miss}
 use denote.Enum.Declared.{tagOf}
 
@@ -47,21 +47,30 @@ unfolding refusalAt refusal
 fault-at-is t p n c e = rw e
 
 -- the name, and what stands behind it
-pub explained-by : {old mid new name ys : List ℕ} {before r : Filled} (t : List ℕ) (a : Answer) → Wrote old mid 0 name before → WroteAfter before mid new ys r → finding t a ≡ ys → Wrote old new 0 (explained name t a) r
+pub explained-by : {old mid new ys : List ℕ} {before r : Filled} (name q t : List ℕ) (a : Answer) → Wrote old mid 0 (shownName name) before → WroteAfter before mid new ys r → finding q t a ≡ ys → Wrote old new 0 (explained name q t a) r
 unfolding explained
-explained-by t a w v e = rw e (v .behind _ _ _ w)
+explained-by name q t a w v e = rw e (v .behind _ _ _ w)
+
+-- a name put as it is shown
+pub name-put : {old mid new : List ℕ} {before r : Filled} (name : List ℕ) → Wrote old mid 0 [] before → WroteAfter before mid new (map (shownIn Name) name) r → Wrote old new 0 (shownName name) r
+unfolding shownName
+name-put name w v = v .behind _ _ _ w
+
+pub ok-is : (q : List ℕ) → okFor q ≡ bytes ": ok for \"" ++ map (shownIn Name) q ++ bytes "\"\n"
+unfolding okFor shownName
+ok-is q = refl
 
 -- what stands there by the answer
-module _ (t : List ℕ) {a : Answer} {p : ℕ} where
-  pub finding-byte : a ≡ RefusedByte p → finding t a ≡ refusalAt t (placeIn t p) 12 refusedByteWords
+module _ (q t : List ℕ) {a : Answer} {p : ℕ} where
+  pub finding-byte : a ≡ RefusedByte p → finding q t a ≡ refusalAt t (placeIn t p) 12 refusedByteWords
   unfolding finding
   finding-byte e = rw e
 
-  pub finding-cut : a ≡ CutShort p → finding t a ≡ refusalAt t (placeIn t p) 13 cutShortWords
+  pub finding-cut : a ≡ CutShort p → finding q t a ≡ refusalAt t (placeIn t p) 13 cutShortWords
   unfolding finding
   finding-cut e = rw e
 
-  pub finding-line : {c : Cause} {at : ℕ} → at ≡ placeIn t p → a ≡ RefusedLine c p → finding t a ≡ refusalAt t at (numberOf c) (wordsOf c)
+  pub finding-line : {c : Cause} {at : ℕ} → at ≡ placeIn t p → a ≡ RefusedLine c p → finding q t a ≡ refusalAt t at (numberOf c) (wordsOf c)
   unfolding finding
   finding-line h e = rw (e, h)
 
@@ -69,17 +78,17 @@ module _ (t : List ℕ) {a : Answer} {p : ℕ} where
 abbrev pub decisions : List ℕ
 decisions = 0 ∷ 1 ∷ 2 ∷ 3 ∷ 4 ∷ 5 ∷ []
 
-pub finding-ok : (t : List ℕ) (a : Answer) → OneOf decisions (tagOf the-type a) → finding t a ≡ bytes ": ok\n"
+pub finding-ok : (q t : List ℕ) (a : Answer) → OneOf decisions (tagOf the-type a) → finding q t a ≡ okFor q
 unfolding finding
-finding-ok t (Permit g) h = refl
-finding-ok t (Password g) h = refl
-finding-ok t NoEntry h = refl
-finding-ok t (StoppedByNargs l) h = refl
-finding-ok t (StoppedByArgument l) h = refl
-finding-ok t (StoppedByPath l) h = refl
-finding-ok t MalformedQuestion h = absurd (miss decisions 6 tt h)
-finding-ok t LongTable h = absurd (miss decisions 7 tt h)
-finding-ok t (RefusedByte p) h = absurd (miss decisions 8 tt h)
-finding-ok t (CutShort p) h = absurd (miss decisions 9 tt h)
-finding-ok t (RefusedLine c p) h = absurd (miss decisions 10 tt h)
-finding-ok t SmallBuffer h = absurd (miss decisions 11 tt h)
+finding-ok q t (Permit g) h = refl
+finding-ok q t (Password g) h = refl
+finding-ok q t NoEntry h = refl
+finding-ok q t (StoppedByNargs l) h = refl
+finding-ok q t (StoppedByArgument l) h = refl
+finding-ok q t (StoppedByPath l) h = refl
+finding-ok q t MalformedQuestion h = absurd (miss decisions 6 tt h)
+finding-ok q t LongTable h = absurd (miss decisions 7 tt h)
+finding-ok q t (RefusedByte p) h = absurd (miss decisions 8 tt h)
+finding-ok q t (CutShort p) h = absurd (miss decisions 9 tt h)
+finding-ok q t (RefusedLine c p) h = absurd (miss decisions 10 tt h)
+finding-ok q t SmallBuffer h = absurd (miss decisions 11 tt h)

@@ -1,6 +1,6 @@
 -- What the definitions promise: one physical line, with the place in it, and nothing that a terminal would take for a command. Assumes nothing.
 use mathlib.Core.Path.{_≡_, refl, ap, _∙_}
-use mathlib.Core.Bool.{Bool, true, false, cond}
+use mathlib.Core.Bool.{Bool, true, false, not, cond}
 use mathlib.Core.List.{List, [], _∷_, _++_, map}
 use mathlib.Core.Logic.{_⊎_, inl, inr}
 use Prim.Native.Nat.{ℕ, zero, suc, _+_, _-_, _≤_, _<_}
@@ -17,9 +17,9 @@ use Rattle.text.proofs.Laws.{part-length, both-of}
 use Rattle.text.proofs.Lists.{all-append, any-append}
 use Rattle.line.specs.Refused.{accepted}
 use Rattle.explain.specs.Place.{lineStart, lineEnd, column, physicalLine, lineFront}
-use Rattle.explain.specs.Explained.{shownIn, rows}
+use Rattle.explain.specs.Explained.{control, shownIn, shownName, rows}
 use Rattle.explain.specs.declared.row.Row.{Row}
-use Rattle.explain.specs.declared.row.Row.the-variants.{Line, Caret}
+use Rattle.explain.specs.declared.row.Row.the-variants.{Line, Caret, Name}
 
 has-append : (c : ℕ) (xs ys : List ℕ) → has c xs ≡ false → has c ys ≡ false → has c (xs ++ ys) ≡ false
 unfolding has
@@ -94,29 +94,45 @@ module _ (t : List ℕ) where
     pub line-clear : has 10 (physicalLine t p) ≡ false
     line-clear = rw line-parts (has-append 10 (lineFront t p) (take (lead 10 (drop p t)) (drop p t)) (front-clear p h) (lead-clear 10 (drop p t)))
 
-shown-accepted : (row : Row) (b : ℕ) → accepted (shownIn row b) ≡ true
+line-accepted : (b : ℕ) → accepted (shownIn Line b) ≡ true
 unfolding shownIn accepted classOf blank letter digit printable
-shown-accepted Line b = go (accepted b) refl
+line-accepted b = go (accepted b) refl
   where
     go : (x : Bool) → accepted b ≡ x → accepted (cond x b 63) ≡ true
     go true e = e
     go false e = refl
-shown-accepted Caret b = go (eqb b 9) refl
+
+caret-accepted : (b : ℕ) → accepted (shownIn Caret b) ≡ true
+unfolding shownIn accepted classOf blank letter digit printable
+caret-accepted b = go (eqb b 9) refl
   where
     go : (x : Bool) → eqb b 9 ≡ x → accepted (cond x b 32) ≡ true
     go true e = rw (eqb-true b 9 e)
     go false e = refl
 
-all-shown : (row : Row) (s : List ℕ) → all accepted (map (shownIn row) s) ≡ true
+-- what holds of each byte that is shown holds of all
+all-shown : (holds : ℕ → Bool) (row : Row) → ((b : ℕ) → holds (shownIn row b) ≡ true) → (s : List ℕ) → all holds (map (shownIn row) s) ≡ true
 unfolding all
-all-shown row [] = refl
-all-shown row (b ∷ s) = both-of (shown-accepted row b) (all-shown row s)
+all-shown holds row h [] = refl
+all-shown holds row h (b ∷ s) = both-of (h b) (all-shown holds row h s)
 
--- "nothing in a table can move a terminal's cursor": all that is printed of it are tabs, newlines and 0x20 to 0x7E
+-- a name or a question, whatever its bytes are, is shown without a control byte
+pub name-clear : (name : List ℕ) → all (λ b. not (control b)) (shownName name) ≡ true
+unfolding shownName shownIn
+name-clear name = all-shown (λ b. not (control b)) Name clear name
+  where
+    clear : (b : ℕ) → not (control (shownIn Name b)) ≡ true
+    clear b = go (control b) refl
+      where
+        go : (x : Bool) → control b ≡ x → not (control (cond x 63 b)) ≡ true
+        go true e = refl
+        go false e = rw e
+
+-- no byte of a table can move a terminal's cursor: all that is printed of it are tabs, newlines and 0x20 to 0x7E
 pub rows-accepted : (t : List ℕ) (p : ℕ) → all accepted (rows t p) ≡ true
 unfolding rows all accepted classOf blank letter digit printable
 rows-accepted t p =
     let l = map (shownIn Line) (physicalLine t p) in
     let f = map (shownIn Caret) (lineFront t p) in
     all-append accepted (l ++ bytes "\n" ++ f) (bytes "^\n")
-    ∙ both-of (all-append accepted (l ++ bytes "\n") f ∙ both-of (all-append accepted l (bytes "\n") ∙ both-of (all-shown Line (physicalLine t p)) refl) (all-shown Caret (lineFront t p))) refl
+    ∙ both-of (all-append accepted (l ++ bytes "\n") f ∙ both-of (all-append accepted l (bytes "\n") ∙ both-of (all-shown accepted Line line-accepted (physicalLine t p)) refl) (all-shown accepted Caret caret-accepted (lineFront t p))) refl

@@ -3,7 +3,7 @@ use mathlib.Core.Path.{_≡_}
 use mathlib.Core.Bool.{true}
 use mathlib.Core.List.{List, [], _∷_, _++_, map}
 use Prim.Native.Nat.{ℕ, _+_, _≤_, _<_}
-use borrow.Author.Tests.{eq-eqb, ne-eqb}
+use borrow.Author.Tests.{eq-eqb, ne-eqb, lt-ltb, le-ltb}
 use lib.ListN.{length, drop, getD, drop-of-length-le}
 use Rattle.text.specs.Class.{classOf}
 use Rattle.text.specs.declared.class.Class.{Class}
@@ -11,9 +11,9 @@ use Rattle.text.specs.declared.class.Class.the-variants.{Blank, Newline, Letter
 use Rattle.text.proofs.class.Class.{the-type}
 use Rattle.text.proofs.Laws.{next}
 use Rattle.line.specs.Refused.{accepted}
-use Rattle.explain.specs.Explained.{shownIn}
+use Rattle.explain.specs.Explained.{control, shownIn}
 use Rattle.explain.specs.declared.row.Row.{Row}
-use Rattle.explain.specs.declared.row.Row.the-variants.{Line, Caret}
+use Rattle.explain.specs.declared.row.Row.the-variants.{Line, Caret, Name}
 use types.Run.{OneOf, miss}
 use denote.Enum.Declared.{tagOf}
 
@@ -57,3 +57,15 @@ module _ (b : ℕ) where
   pub shown-space : {row : Row} → row ≡ Caret → (b ≡ 9 → ⊥) → 32 ≡ shownIn row b
   unfolding shownIn
   shown-space e h = rw (e, ne-eqb b 9 h)
+
+  pub shown-low : {row : Row} → row ≡ Name → b < 32 → 63 ≡ shownIn row b
+  unfolding shownIn control
+  shown-low e h = rw (e, lt-ltb b 32 h)
+
+  pub shown-delete : {row : Row} → row ≡ Name → 32 ≤ b → b ≡ 127 → 63 ≡ shownIn row b
+  unfolding shownIn control
+  shown-delete e h k = rw (e, le-ltb b 32 h, eq-eqb b 127 k)
+
+  pub shown-other : {row : Row} → row ≡ Name → 32 ≤ b → (b ≡ 127 → ⊥) → b ≡ shownIn row b
+  unfolding shownIn control
+  shown-other e h k = rw (e, le-ltb b 32 h, ne-eqb b 127 k)

@@ -1,7 +1,8 @@
 -- What `supertab --check` prints for an answer (docs/check-words.md).
 use Prim.Native.Nat.{ℕ, min}
-use mathlib.Core.Bool.{cond}
+use mathlib.Core.Bool.{Bool, cond, _||_}
 use mathlib.Core.List.{List, _++_, map}
+use lib.Dec.{eqb, ltb}
 use lib.ListN.{length}
 use Rattle.text.specs.Bytes.{bytes, byte, is}
 use Rattle.fault.specs.Fault.{numberOf}
@@ -12,12 +13,23 @@ use Rattle.output.specs.Decimal.{decimal}
 use Rattle.explain.specs.Place.{lineNumber, column, physicalLine, lineFront}
 use Rattle.explain.specs.Words.{wordsOf, longTableWords, refusedByteWords, cutShortWords}
 use Rattle.explain.specs.declared.row.Row.{Row}
-use Rattle.explain.specs.declared.row.Row.the-variants.{Line, Caret}
+use Rattle.explain.specs.declared.row.Row.the-variants.{Line, Caret, Name}
 
--- a byte of the physical line as its row shows it: "A byte that no table may have is printed as `?`"; "In front of the caret a tab of the physical line is a tab and any other byte a space"
+-- a byte that would move a terminal's cursor
+unfoldable pub control : ℕ → Bool
+control b = ltb b 32 || eqb b 127
+
+-- a byte as it is shown: in the physical line `?` for one that no table may have, in front of the caret a tab for a tab and a space for any other, in a name or a question `?` for a control byte
 unfoldable pub shownIn : Row → ℕ → ℕ
+unfolding control
 shownIn Line b = cond (accepted b) b (byte "?")
 shownIn Caret b = cond (is "\t" b) b (byte " ")
+shownIn Name b = cond (control b) (byte "?") b
+
+-- a name as it is shown
+unfoldable pub shownName : List ℕ → List ℕ
+unfolding shownIn
+shownName name = map (shownIn Name) name
 
 -- the physical line and the caret line
 unfoldable pub rows : List ℕ → ℕ → List ℕ
@@ -47,22 +59,28 @@ refusalAt table place number words = position table place ++ refusal number word
 abbrev pub placeIn : List ℕ → ℕ → ℕ
 placeIn table place = min place (length table)
 
+-- that a table is ok for this question, which is all that a check has looked at
+unfoldable pub okFor : List ℕ → List ℕ
+unfolding shownName
+okFor question = bytes ": ok for \"" ++ shownName question ++ bytes "\"\n"
+
 -- what stands behind the table's name; of 10 and 17, which are no faults of a table, the number and the place
-unfoldable pub finding : List ℕ → Answer → List ℕ
-finding table (Permit g) = bytes ": ok\n"
-finding table (Password g) = bytes ": ok\n"
-finding table NoEntry = bytes ": ok\n"
-finding table (StoppedByNargs l) = bytes ": ok\n"
-finding table (StoppedByArgument l) = bytes ": ok\n"
-finding table (StoppedByPath l) = bytes ": ok\n"
-finding table MalformedQuestion = bytes ": refused 10 0\n"
-finding table LongTable = refusal 11 longTableWords
-finding table (RefusedByte p) = refusalAt table (placeIn table p) 12 refusedByteWords
-finding table (CutShort p) = refusalAt table (placeIn table p) 13 cutShortWords
-finding table (RefusedLine c p) = refusalAt table (placeIn table p) (numberOf c) (wordsOf c)
-finding table SmallBuffer = bytes ": refused 17 0\n"
+unfoldable pub finding : (question table : List ℕ) → Answer → List ℕ
+unfolding okFor
+finding question table (Permit g) = okFor question
+finding question table (Password g) = okFor question
+finding question table NoEntry = okFor question
+finding question table (StoppedByNargs l) = okFor question
+finding question table (StoppedByArgument l) = okFor question
+finding question table (StoppedByPath l) = okFor question
+finding question table MalformedQuestion = bytes ": refused 10 0\n"
+finding question table LongTable = refusal 11 longTableWords
+finding question table (RefusedByte p) = refusalAt table (placeIn table p) 12 refusedByteWords
+finding question table (CutShort p) = refusalAt table (placeIn table p) 13 cutShortWords
+finding question table (RefusedLine c p) = refusalAt table (placeIn table p) (numberOf c) (wordsOf c)
+finding question table SmallBuffer = bytes ": refused 17 0\n"
 
 -- what is printed for a table of this name
-unfoldable pub explained : List ℕ → List ℕ → Answer → List ℕ
-unfolding finding
-explained name table answer = name ++ finding table answer
+unfoldable pub explained : (name question table : List ℕ) → Answer → List ℕ
+unfolding shownName finding
+explained name question table answer = shownName name ++ finding question table answer

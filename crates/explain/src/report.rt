@@ -1,6 +1,8 @@
 // What is printed for a table that was asked a question.
 use super::place::line_number;
 use super::place::line_start;
+use super::row::Row;
+use super::row::then_row;
 use super::row::then_rows;
 use super::words::then_words;
 use answer::Answer;
@@ -16,7 +18,7 @@ ghost use Rattle.text.specs.Contract.{Wrote};
 ghost use Rattle.fault.specs.Fault.{numberOf};
 ghost use Rattle.output.specs.Contract.{WroteAfter};
 ghost use Rattle.explain.specs.Words.{wordsOf};
-ghost use Rattle.explain.specs.Explained.{refused, position, refusal, refusalAt, placeIn, explained};
+ghost use Rattle.explain.specs.Explained.{refused, position, refusal, refusalAt, placeIn, shownName, okFor, explained};
 
 // The number of the line and the column, each behind a colon.
 fn then_position(filled: Filled, table: &[u8], place: usize, out: &mut [u8]) -> Filled
@@ -73,11 +75,33 @@ fn then_fault_at(filled: Filled, cause: Cause, table: &[u8], place: usize, out: 
     then_rows(told, table, place, out)
 }
 
-// The name of the table, and that it is ok or what is wrong with it; a place past the table's end is its end.
-pub fn explain(name: &[u8], table: &[u8], answer: Answer, out: &mut [u8]) -> Filled
-    ensures { λ r. ⌜ Wrote (now (out .entry)) (now (out .exit)) 0 (explained (now (name .entry)) (now (table .entry)) answer) r ⌝ }
+// The name of a file in front of a report, without a byte that would move a terminal's cursor.
+pub fn put_name(name: &[u8], out: &mut [u8]) -> Filled
+    ensures { λ r. ⌜ Wrote (now (out .entry)) (now (out .exit)) 0 (shownName (now (name .entry))) r ⌝ }
 {
-    let named = put_all(out, 0, name);
+    let front = put_all(out, 0, b"");
+    then_row(front, Row::Name, name, out)
+}
+
+// That a table is ok for a question.
+fn then_ok(filled: Filled, question: &[u8], out: &mut [u8]) -> Filled
+    ensures { λ r. ⌜ WroteAfter filled (now (out .entry)) (now (out .exit)) (okFor (now (question .entry))) r ⌝ }
+{
+    let head = then_all(filled, b": ok for \"", out);
+    then_all(then_row(head, Row::Name, question, out), b"\"\n", out)
+}
+
+// The name of the table, and that it is ok for this question or what is wrong with it; a place past the table's end is its end.
+pub fn explain(
+    name: &[u8],
+    question: &[u8],
+    table: &[u8],
+    answer: Answer,
+    out: &mut [u8],
+) -> Filled
+    ensures { λ r. ⌜ Wrote (now (out .entry)) (now (out .exit)) 0 (explained (now (name .entry)) (now (question .entry)) (now (table .entry)) answer) r ⌝ }
+{
+    let named = put_name(name, out);
     match answer {
         Answer::MalformedQuestion => then_all(named, b": refused 10 0\n", out),
         Answer::LongTable => then_refusal(
@@ -106,6 +130,6 @@ pub fn explain(name: &[u8], table: &[u8], answer: Answer, out: &mut [u8]) -> Fil
             then_fault_at(named, cause, table, at_most(place, table.len()), out)
         }
         Answer::SmallBuffer => then_all(named, b": refused 17 0\n", out),
-        _ => then_all(named, b": ok\n", out),
+        _ => then_ok(named, question, out),
     }
 }

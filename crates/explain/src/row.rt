@@ -1,4 +1,4 @@
-// The two rows that show a place: its physical line, and below it the caret.
+// Bytes as they are shown: a name, and the two rows of a place, its physical line and below it the caret.
 use super::place::line_start;
 use output::behind::then_all;
 use output::behind::then_byte;
@@ -13,15 +13,17 @@ ghost use lib.ListN.{length};
 ghost use Rattle.output.specs.Contract.{WroteAfter};
 ghost use Rattle.explain.specs.Explained.{shownIn, rows};
 
-// The row that a byte is printed in.
+// Where a byte is printed.
 pub enum Row {
-    // The line itself.
+    // In the physical line.
     Line,
-    // What stands in front of the caret.
+    // In front of the caret.
     Caret,
+    // In the name of a file or in a question.
+    Name,
 }
 
-// The byte that a row shows for one of the physical line.
+// The byte that is shown there for this one.
 fn shown_in(row: Row, b: u8) -> u8
     ensures { λ r. ⌜ r ≡ shownIn row b ⌝ }
 {
@@ -31,11 +33,18 @@ fn shown_in(row: Row, b: u8) -> u8
             _ => b,
         },
         Row::Caret => { if b == b'\t' { b } else { b' ' } }
+        Row::Name => {
+            if b < 32 {
+                b'?'
+            } else {
+                if b == 127 { b'?' } else { b }
+            }
+        }
     }
 }
 
-// Bytes of the physical line as a row shows them.
-fn then_row(filled: Filled, row: Row, s: &[u8], out: &mut [u8]) -> Filled
+// Bytes as they are shown there.
+pub fn then_row(filled: Filled, row: Row, s: &[u8], out: &mut [u8]) -> Filled
     ensures { λ r. ⌜ WroteAfter filled (now (out .entry)) (now (out .exit)) (map (shownIn row) (now (s .entry))) r ⌝ }
 {
     let mut last = filled;

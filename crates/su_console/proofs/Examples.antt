@@ -22,7 +22,7 @@ use Rattle.su_console.specs.QuestionLine.{suAskedFrom, suAskedIn}
 use Rattle.su_console.specs.Printed.{actionText, suPrinted}
 use Rattle.su_console.specs.Words.{longFileWords, suRefusedByteWords, suCutShortWords, malformedLineWords}
 use Rattle.su_console.specs.Explained.{suFinding, suExplained}
-use Rattle.explain.specs.Explained.{shownIn, rows, position, refused as refusedWith, refusal, refusalAt}
+use Rattle.explain.specs.Explained.{control, shownIn, shownName, rows, position, refused as refusedWith, refusal, refusalAt}
 
 -- ---- what a question line asks
 -- good lines: no group, groups, a list in which `-` is a name, empty pieces, which the question refuses
@@ -92,20 +92,20 @@ printed-answers = refl
 -- ---- a file that is checked
 -- a malformed line, its blanks included, and the caret below its first byte
 pub malformed-shown : suExplained (bytes "suauth") (bytes "root:ALL:DENY\n\tann:DENY\n") (MalformedLine 14) ≡ bytes "suauth:2:1: refused 14: " ++ malformedLineWords ++ bytes "\n\tann:DENY\n^\n"
-unfolding suExplained suFinding refusalAt refusal refusedWith position rows shownIn physicalLine lineFront column lineEnd lineStart lineNumber decimal written accepted classOf blank letter digit printable count lead malformedLineWords
+unfolding suExplained shownName control suFinding refusalAt refusal refusedWith position rows shownIn physicalLine lineFront column lineEnd lineStart lineNumber decimal written accepted classOf blank letter digit printable count lead malformedLineWords
 malformed-shown = refl
 
 -- both bytes of an accented letter are printed as `?`, and the caret stands below the first
 pub accented-shown : suExplained (bytes "-") (bytes "ann,j" ++ 195 ∷ 188 ∷ bytes "rgen:ALL:DENY\n") (RefusedByte 5) ≡ bytes "-:1:6: refused 12: " ++ suRefusedByteWords ++ bytes "\nann,j??rgen:ALL:DENY\n     ^\n"
-unfolding suExplained suFinding refusalAt refusal refusedWith position rows shownIn physicalLine lineFront column lineEnd lineStart lineNumber decimal written accepted classOf blank letter digit printable count lead suRefusedByteWords
+unfolding suExplained shownName control suFinding refusalAt refusal refusedWith position rows shownIn physicalLine lineFront column lineEnd lineStart lineNumber decimal written accepted classOf blank letter digit printable count lead suRefusedByteWords
 accented-shown = refl
 
 -- a file that ends in the middle of its last line
 pub cut-shown : suExplained (bytes "-") (bytes "#\nroot:AL") (CutShort 2) ≡ bytes "-:2:1: refused 13: " ++ suCutShortWords ++ bytes "\nroot:AL\n^\n"
-unfolding suExplained suFinding refusalAt refusal refusedWith position rows shownIn physicalLine lineFront column lineEnd lineStart lineNumber decimal written accepted classOf blank letter digit printable count lead suCutShortWords
+unfolding suExplained shownName control suFinding refusalAt refusal refusedWith position rows shownIn physicalLine lineFront column lineEnd lineStart lineNumber decimal written accepted classOf blank letter digit printable count lead suCutShortWords
 cut-shown = refl
 
 -- no place in a line
 pub others-shown : map (suExplained (bytes "f") []) (NoRule ∷ MalformedQuestion ∷ LongFile ∷ []) ≡ bytes "f: ok\n" ∷ bytes "f: refused 10 0\n" ∷ (bytes "f: refused 11: " ++ longFileWords ++ bytes "\n") ∷ []
-unfolding suExplained suFinding refusal refusedWith decimal written
+unfolding suExplained shownName shownIn control suFinding refusal refusedWith decimal written
 others-shown = refl

@@ -9,16 +9,16 @@ use Rattle.suauth.specs.declared.SuAnswer.{SuAnswer}
 use Rattle.suauth.specs.declared.SuAnswer.the-variants.{Deny, NoPassword, OwnPassword, NoRule, MalformedQuestion, LongFile, RefusedByte, CutShort, MalformedLine}
 use Rattle.suauth.proofs.SuAnswer.{the-type}
 use Rattle.output.specs.Contract.{WroteAfter}
-use Rattle.explain.specs.Explained.{refusalAt, placeIn}
+use Rattle.explain.specs.Explained.{refusalAt, placeIn, shownName}
 use Rattle.su_console.specs.Words.{suRefusedByteWords, suCutShortWords, malformedLineWords}
 use Rattle.su_console.specs.Explained.{suFinding, suExplained}
 use types.Run.{OneOf, miss}
 use denote.Enum.Declared.{tagOf}
 
 -- the name, and what stands behind it
-pub explained-by : {old mid new name ys : List ℕ} {before r : Filled} (t : List ℕ) (a : SuAnswer) → Wrote old mid 0 name before → WroteAfter before mid new ys r → suFinding t a ≡ ys → Wrote old new 0 (suExplained name t a) r
+pub explained-by : {old mid new ys : List ℕ} {before r : Filled} (name t : List ℕ) (a : SuAnswer) → Wrote old mid 0 (shownName name) before → WroteAfter before mid new ys r → suFinding t a ≡ ys → Wrote old new 0 (suExplained name t a) r
 unfolding suExplained
-explained-by t a w v e = rw e (v .behind _ _ _ w)
+explained-by name t a w v e = rw e (v .behind _ _ _ w)
 
 -- what stands there by the answer
 module _ (t : List ℕ) {a : SuAnswer} {p : ℕ} where

@@ -4,7 +4,7 @@ use mathlib.Core.List.{List, _++_}
 use Rattle.text.specs.Bytes.{bytes}
 use Rattle.suauth.specs.declared.SuAnswer.{SuAnswer}
 use Rattle.suauth.specs.declared.SuAnswer.the-variants.{Deny, NoPassword, OwnPassword, NoRule, MalformedQuestion, LongFile, RefusedByte, CutShort, MalformedLine}
-use Rattle.explain.specs.Explained.{refusal, refusalAt, placeIn}
+use Rattle.explain.specs.Explained.{refusal, refusalAt, placeIn, shownName}
 use Rattle.su_console.specs.Words.{longFileWords, suRefusedByteWords, suCutShortWords, malformedLineWords}
 
 -- what stands behind the file's name; of 10, which is no fault of a file, the number and the place
@@ -21,5 +21,5 @@ suFinding file (MalformedLine p) = refusalAt file (placeIn file p) 14 malformedL
 
 -- what is printed for a file of this name
 unfoldable pub suExplained : List ℕ → List ℕ → SuAnswer → List ℕ
-unfolding suFinding
-suExplained name file answer = name ++ suFinding file answer
+unfolding shownName suFinding
+suExplained name file answer = shownName name ++ suFinding file answer

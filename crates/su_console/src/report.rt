@@ -1,10 +1,10 @@
 // What is printed for a su file that was asked a question.
+use explain::report::put_name;
 use explain::report::then_refusal;
 use explain::report::then_refusal_at;
 use output::behind::then_all;
 use suauth::SuAnswer;
 use text::buffer::Filled;
-use text::buffer::put_all;
 ghost use Rattle.text.specs.Contract.{Wrote};
 ghost use Rattle.su_console.specs.Explained.{suExplained};
 
@@ -12,7 +12,7 @@ ghost use Rattle.su_console.specs.Explained.{suExplained};
 pub fn explain_su(name: &[u8], file: &[u8], answer: SuAnswer, out: &mut [u8]) -> Filled
     ensures { λ r. ⌜ Wrote (now (out .entry)) (now (out .exit)) 0 (suExplained (now (name .entry)) (now (file .entry)) answer) r ⌝ }
 {
-    let named = put_all(out, 0, name);
+    let named = put_name(name, out);
     match answer {
         SuAnswer::MalformedQuestion => then_all(named, b": refused 10 0\n", out),
         SuAnswer::LongFile => then_refusal(

@@ -6,8 +6,8 @@ use Rattle.explain.proofs.ExplainLaws.{explained-by, finding-byte, find
 use Rattle.explain.proofs.report.explain.Statement.{statement}
 use Rattle.explain.proofs.report.explain.Tie as tie
 
-put-all-requires : tie.Need-put-all-requires
-put-all-requires c κs = search needs
+put-name-requires : tie.Need-put-name-requires
+put-name-requires c κs = search needs
 
 enum-told : tie.Need-enum-told
 enum-told c = search needs
@@ -63,64 +63,61 @@ slice-aggregate-then-all-2 c = search needs
 then-all-requires-2 : tie.Need-then-all-requires-2
 then-all-requires-2 c κs = search needs
 
-slice-aggregate-then-all-3 : tie.Need-slice-aggregate-then-all-3
-slice-aggregate-then-all-3 c = search needs
-
-then-all-requires-3 : tie.Need-then-all-requires-3
-then-all-requires-3 c κs = search needs
+then-ok-requires : tie.Need-then-ok-requires
+then-ok-requires c κs = search needs
 
 same-length : tie.Need-same-length
 same-length c = search needs
 
 returns : tie.Need-returns
 unfolding finding
-returns c = explained-by _ _ (c .before .before .before .before .before .before .before .before .before .put-all .ensures) (c .before .before .then-all .ensures) (ap (finding _) (c .before .before .before .before .before .enum-told .given .1))
+returns c = explained-by _ _ _ _ (c .before .before .before .before .before .before .before .before .before .put-name .ensures) (c .before .before .then-all .ensures) (ap (finding _ _) (c .before .before .before .before .before .enum-told .given .1))
 
 same-length-2 : tie.Need-same-length-2
 same-length-2 c = search needs
 
 returns-2 : tie.Need-returns-2
 unfolding finding longTableWords
-returns-2 c = explained-by _ _ (c .before .before .before .before .before .before .before .before .before .put-all .ensures) (c .before .before .then-refusal .ensures) (ap (finding _) (c .before .before .before .before .before .enum-told2 .given .1))
+returns-2 c = explained-by _ _ _ _ (c .before .before .before .before .before .before .before .before .before .put-name .ensures) (c .before .before .then-refusal .ensures) (ap (finding _ _) (c .before .before .before .before .before .enum-told2 .given .1))
 
 same-length-3 : tie.Need-same-length-3
 same-length-3 c = search needs
 
 returns-3 : tie.Need-returns-3
 unfolding refusedByteWords
-returns-3 c = explained-by _ _ (c .before .before .before .before .before .before .before .before .before .before .put-all .ensures) (c .before .before .then-refusal-at .ensures) (finding-byte _ (c .before .before .before .before .before .before .answer .given .1))
+returns-3 c = explained-by _ _ _ _ (c .before .before .before .before .before .before .before .before .before .before .put-name .ensures) (c .before .before .then-refusal-at .ensures) (finding-byte _ _ (c .before .before .before .before .before .before .answer .given .1))
 
 same-length-4 : tie.Need-same-length-4
 same-length-4 c = search needs
 
 returns-4 : tie.Need-returns-4
 unfolding cutShortWords
-returns-4 c = explained-by _ _ (c .before .before .before .before .before .before .before .before .before .before .put-all .ensures) (c .before .before .then-refusal-at2 .ensures) (finding-cut _ (c .before .before .before .before .before .before .answer2 .given .1))
+returns-4 c = explained-by _ _ _ _ (c .before .before .before .before .before .before .before .before .before .before .put-name .ensures) (c .before .before .then-refusal-at2 .ensures) (finding-cut _ _ (c .before .before .before .before .before .before .answer2 .given .1))
 
 same-length-5 : tie.Need-same-length-5
 same-length-5 c = search needs
 
 returns-5 : tie.Need-returns-5
-returns-5 c = explained-by _ _ (c .before .before .before .before .before .before .before .before .before .before .put-all .ensures) (c .before .before .then-fault-at .ensures) (finding-line _ (c .before .before .before .before .at-most .ensures .0) (c .before .before .before .before .before .before .answer3 .given .1))
+returns-5 c = explained-by _ _ _ _ (c .before .before .before .before .before .before .before .before .before .before .put-name .ensures) (c .before .before .then-fault-at .ensures) (finding-line _ _ (c .before .before .before .before .at-most .ensures .0) (c .before .before .before .before .before .before .answer3 .given .1))
 
 same-length-6 : tie.Need-same-length-6
 same-length-6 c = search needs
 
 returns-6 : tie.Need-returns-6
 unfolding finding
-returns-6 c = explained-by _ _ (c .before .before .before .before .before .before .before .before .before .put-all .ensures) (c .before .before .then-all2 .ensures) (ap (finding _) (c .before .before .before .before .before .enum-told3 .given .1))
+returns-6 c = explained-by _ _ _ _ (c .before .before .before .before .before .before .before .before .before .put-name .ensures) (c .before .before .then-all2 .ensures) (ap (finding _ _) (c .before .before .before .before .before .enum-told3 .given .1))
 
 same-length-7 : tie.Need-same-length-7
 same-length-7 c = search needs
 
 returns-7 : tie.Need-returns-7
-returns-7 c = explained-by _ _ (c .before .before .before .before .before .before .before .before .put-all .ensures) (c .before .before .then-all3 .ensures) (finding-ok _ _ (c .before .before .before .before .before .match .keys7))
+returns-7 c = explained-by _ _ _ _ (c .before .before .before .before .before .before .before .put-name .ensures) (c .before .before .then-ok .ensures) (finding-ok _ _ _ (c .before .before .before .before .match .keys7))
 
 pub explain-spec : {M : Type 1} → statement M
 explain-spec =
     tie.close
     (tie.spec
-    put-all-requires
+    put-name-requires
     enum-told
     slice-aggregate-then-all
     then-all-requires
@@ -139,8 +136,7 @@ explain-spec =
     enum-told-3
     slice-aggregate-then-all-2
     then-all-requires-2
-    slice-aggregate-then-all-3
-    then-all-requires-3
+    then-ok-requires
     same-length
     returns
     same-length-2

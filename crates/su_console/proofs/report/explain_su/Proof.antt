@@ -6,8 +6,8 @@ use Rattle.su_console.proofs.ExplainLaws.{explained-by, finding-byte, f
 use Rattle.su_console.proofs.report.explain_su.Statement.{statement}
 use Rattle.su_console.proofs.report.explain_su.Tie as tie
 
-put-all-requires : tie.Need-put-all-requires
-put-all-requires c κs = search needs
+put-name-requires : tie.Need-put-name-requires
+put-name-requires c κs = search needs
 
 enum-told : tie.Need-enum-told
 enum-told c = search needs
@@ -65,47 +65,47 @@ same-length c = search needs
 
 returns : tie.Need-returns
 unfolding suFinding
-returns c = explained-by _ _ (c .before .before .before .before .before .before .before .before .before .put-all .ensures) (c .before .before .then-all .ensures) (ap (suFinding _) (c .before .before .before .before .before .enum-told .given .1))
+returns c = explained-by _ _ _ (c .before .before .before .before .before .before .before .before .before .put-name .ensures) (c .before .before .then-all .ensures) (ap (suFinding _) (c .before .before .before .before .before .enum-told .given .1))
 
 same-length-2 : tie.Need-same-length-2
 same-length-2 c = search needs
 
 returns-2 : tie.Need-returns-2
 unfolding suFinding longFileWords
-returns-2 c = explained-by _ _ (c .before .before .before .before .before .before .before .before .before .put-all .ensures) (c .before .before .then-refusal .ensures) (ap (suFinding _) (c .before .before .before .before .before .enum-told2 .given .1))
+returns-2 c = explained-by _ _ _ (c .before .before .before .before .before .before .before .before .before .put-name .ensures) (c .before .before .then-refusal .ensures) (ap (suFinding _) (c .before .before .before .before .before .enum-told2 .given .1))
 
 same-length-3 : tie.Need-same-length-3
 same-length-3 c = search needs
 
 returns-3 : tie.Need-returns-3
 unfolding suRefusedByteWords
-returns-3 c = explained-by _ _ (c .before .before .before .before .before .before .before .before .before .before .put-all .ensures) (c .before .before .then-refusal-at .ensures) (finding-byte _ (c .before .before .before .before .before .before .answer .given .1))
+returns-3 c = explained-by _ _ _ (c .before .before .before .before .before .before .before .before .before .before .put-name .ensures) (c .before .before .then-refusal-at .ensures) (finding-byte _ (c .before .before .before .before .before .before .answer .given .1))
 
 same-length-4 : tie.Need-same-length-4
 same-length-4 c = search needs
 
 returns-4 : tie.Need-returns-4
 unfolding suCutShortWords
-returns-4 c = explained-by _ _ (c .before .before .before .before .before .before .before .before .before .before .put-all .ensures) (c .before .before .then-refusal-at2 .ensures) (finding-cut _ (c .before .before .before .before .before .before .answer2 .given .1))
+returns-4 c = explained-by _ _ _ (c .before .before .before .before .before .before .before .before .before .before .put-name .ensures) (c .before .before .then-refusal-at2 .ensures) (finding-cut _ (c .before .before .before .before .before .before .answer2 .given .1))
 
 same-length-5 : tie.Need-same-length-5
 same-length-5 c = search needs
 
 returns-5 : tie.Need-returns-5
 unfolding malformedLineWords
-returns-5 c = explained-by _ _ (c .before .before .before .before .before .before .before .before .before .before .put-all .ensures) (c .before .before .then-refusal-at3 .ensures) (finding-line _ (c .before .before .before .before .before .before .answer3 .given .1))
+returns-5 c = explained-by _ _ _ (c .before .before .before .before .before .before .before .before .before .before .put-name .ensures) (c .before .before .then-refusal-at3 .ensures) (finding-line _ (c .before .before .before .before .before .before .answer3 .given .1))
 
 same-length-6 : tie.Need-same-length-6
 same-length-6 c = search needs
 
 returns-6 : tie.Need-returns-6
-returns-6 c = explained-by _ _ (c .before .before .before .before .before .before .before .before .put-all .ensures) (c .before .before .then-all2 .ensures) (finding-ok _ _ (c .before .before .before .before .before .match .keys6))
+returns-6 c = explained-by _ _ _ (c .before .before .before .before .before .before .before .before .put-name .ensures) (c .before .before .then-all2 .ensures) (finding-ok _ _ (c .before .before .before .before .before .match .keys6))
 
 pub explain-su-spec : {M : Type 1} → statement M
 explain-su-spec =
     tie.close
     (tie.spec
-    put-all-requires
+    put-name-requires
     enum-told
     slice-aggregate-then-all
     then-all-requires
