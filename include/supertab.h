@@ -3,7 +3,8 @@
  * supertab_answer takes a table, a question and two lent buffers, and gives a numbered answer. supertab_record_write
  * packs such an answer into the eight bytes of a log record, supertab_record_read reads one back; supertab_figures_new
  * and supertab_figures_feed count such records. supertab_su_answer answers from a su file. They keep nothing between
- * calls, need no heap and may be called from several threads at once. Link libsupertab_c.a.
+ * calls, need no heap and may be called from several threads at once; a thread needs SUPERTAB_STACK bytes of stack for
+ * them. Link libsupertab_c.a, which is built for x86-64 Linux.
  *
  * For C11 and for C++. The manual page supertab(1) has the rules of a table and of a su file in brief.
  */
@@ -62,6 +63,13 @@ enum {
     SUPERTAB_REPORT_LENGTH = 24
 };
 
+enum {
+    /* The bytes of stack that suffice for a thread which makes these calls and does nothing else that is large.
+     * supertab_answer takes most, 64 KB (measured, with every table and question of the tests); supertab_su_answer takes
+     * less than 1 KB. A stack of 64 KB in all is too small for supertab_answer. */
+    SUPERTAB_STACK = 98304
+};
+
 /* The numbers of the report, by their index. One that means nothing for the answer is 0. */
 enum {
     /* Answers 0, 1, 3, 4 and 5: the deciding line, which is the number, from 1, of the first physical line of its
@@ -92,7 +100,7 @@ enum {
     /* 22 and 23 are 0 and kept for later. */
 };
 
-/* The causes for which a control line is refused, each with the answer that it gives. */
+/* The causes for which a control line is refused, each with the answer that it gives. New ones go last. */
 enum {
     /* 15: the joined line has more than 4,096 bytes. */
     SUPERTAB_CAUSE_LINE_LENGTH = 1,
@@ -153,9 +161,9 @@ enum {
 
 /* Answers a question from a table.
  *
- * Every array is a pointer and the number of its elements. No pointer is NULL, also where the number is 0. `buffer` and
- * `report` overlap nothing else that is passed. Any bytes and any numbers may be passed: what is not as said here is
- * answered by a number and never read past its end.
+ * Every array is a pointer and the number of its elements. The pointer may be NULL where the number is 0, and only there.
+ * `buffer` and `report` overlap nothing else that is passed. Any bytes and any numbers may be passed: what is not as said
+ * here is answered by a number and never read past its end.
  *
  *   table          the whole table, at most 32,768 bytes; no zero byte ends it
  *   command        1 to 256 bytes from 0x21 to 0x7E without `:`, not beginning with `/`; no component between slashes is
@@ -377,6 +385,91 @@ uint8_t supertab_su_answer(const uint8_t *file, size_t file_length,
                            const uint8_t *user, size_t user_length,
                            const uint8_t *groups, size_t groups_length,
                            int64_t *report, size_t report_length);
+
+/* The exported functions above take no NULL. From here on their names stand for the functions below, which give them a
+ * place that is valid for every array of no elements; behind an #undef of its name the exported one is had again. */
+static inline const uint8_t *supertab_bytes_or(const uint8_t *bytes, size_t length, const uint8_t *none) {
+    return length == 0 ? none : bytes;
+}
+
+static inline int64_t *supertab_numbers_or(int64_t *numbers, size_t length, int64_t *none) {
+    return length == 0 ? none : numbers;
+}
+
+static inline uint8_t supertab_answer_or_null(const uint8_t *table, size_t table_length,
+                                              const uint8_t *command, size_t command_length,
+                                              const uint8_t *user, size_t user_length,
+                                              const uint8_t *groups, size_t groups_length,
+                                              const uint8_t *host, size_t host_length,
+                                              uint32_t minute,
+                                              bool authenticated, int32_t age,
+                                              const uint8_t *args, size_t args_length,
+                                              uint8_t *buffer, size_t buffer_length,
+                                              int64_t *report, size_t report_length) {
+    uint8_t none = 0, no_buffer = 0;
+    int64_t no_report = 0;
+    return supertab_answer(supertab_bytes_or(table, table_length, &none), table_length,
+                           supertab_bytes_or(command, command_length, &none), command_length,
+                           supertab_bytes_or(user, user_length, &none), user_length,
+                           supertab_bytes_or(groups, groups_length, &none), groups_length,
+                           supertab_bytes_or(host, host_length, &none), host_length,
+                           minute, authenticated, age,
+                           supertab_bytes_or(args, args_length, &none), args_length,
+                           buffer_length == 0 ? &no_buffer : buffer, buffer_length,
+                           supertab_numbers_or(report, report_length, &no_report), report_length);
+}
+
+static inline uint8_t supertab_record_write_or_null(uint8_t number, uint16_t line, uint32_t minute, bool auth,
+                                                    bool authenticated, int32_t age,
+                                                    uint8_t *record, size_t record_length) {
+    uint8_t none = 0;
+    return supertab_record_write(number, line, minute, auth, authenticated, age,
+                                 record_length == 0 ? &none : record, record_length);
+}
+
+static inline uint8_t supertab_record_read_or_null(const uint8_t *record, size_t record_length,
+                                                   int64_t *fields, size_t fields_length) {
+    uint8_t none = 0;
+    int64_t no_fields = 0;
+    return supertab_record_read(supertab_bytes_or(record, record_length, &none), record_length,
+                                supertab_numbers_or(fields, fields_length, &no_fields), fields_length);
+}
+
+static inline uint8_t supertab_figures_new_or_null(int64_t *figures, size_t figures_length) {
+    int64_t none = 0;
+    return supertab_figures_new(supertab_numbers_or(figures, figures_length, &none), figures_length);
+}
+
+static inline uint8_t supertab_figures_feed_or_null(int64_t *figures, size_t figures_length,
+                                                    const uint8_t *batch, size_t batch_length,
+                                                    int64_t *refused, size_t refused_length) {
+    uint8_t none = 0;
+    int64_t no_figures = 0, no_refused = 0;
+    return supertab_figures_feed(supertab_numbers_or(figures, figures_length, &no_figures), figures_length,
+                                 supertab_bytes_or(batch, batch_length, &none), batch_length,
+                                 supertab_numbers_or(refused, refused_length, &no_refused), refused_length);
+}
+
+static inline uint8_t supertab_su_answer_or_null(const uint8_t *file, size_t file_length,
+                                                 const uint8_t *target, size_t target_length,
+                                                 const uint8_t *user, size_t user_length,
+                                                 const uint8_t *groups, size_t groups_length,
+                                                 int64_t *report, size_t report_length) {
+    uint8_t none = 0;
+    int64_t no_report = 0;
+    return supertab_su_answer(supertab_bytes_or(file, file_length, &none), file_length,
+                              supertab_bytes_or(target, target_length, &none), target_length,
+                              supertab_bytes_or(user, user_length, &none), user_length,
+                              supertab_bytes_or(groups, groups_length, &none), groups_length,
+                              supertab_numbers_or(report, report_length, &no_report), report_length);
+}
+
+#define supertab_answer supertab_answer_or_null
+#define supertab_record_write supertab_record_write_or_null
+#define supertab_record_read supertab_record_read_or_null
+#define supertab_figures_new supertab_figures_new_or_null
+#define supertab_figures_feed supertab_figures_feed_or_null
+#define supertab_su_answer supertab_su_answer_or_null
 
 #ifdef __cplusplus
 }

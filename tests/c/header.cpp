@@ -16,7 +16,7 @@ int main() {
     uint8_t fed = supertab_figures_feed(figures, SUPERTAB_FIGURES_LENGTH, record, sizeof record, &refused, 1);
     const uint8_t file[] = {'A', 'L', 'L', ':', 'A', 'L', 'L', ':', 'D', 'E', 'N', 'Y', '\n'};
     int64_t line;
-    uint8_t su = supertab_su_answer(file, sizeof file, user, 1, user, 1, none, 0, &line, SUPERTAB_SU_REPORT_LENGTH);
+    uint8_t su = supertab_su_answer(file, sizeof file, user, 1, user, 1, nullptr, 0, &line, SUPERTAB_SU_REPORT_LENGTH);
     bool good = answer == SUPERTAB_NO_ENTRY && written == SUPERTAB_RECORD_DONE && read == SUPERTAB_RECORD_DONE &&
                 fields[SUPERTAB_FIELD_NUMBER] == SUPERTAB_NO_ENTRY && made == SUPERTAB_FIGURES_DONE &&
                 fed == SUPERTAB_FIGURES_DONE && figures[SUPERTAB_FIGURE_ANSWERS + answer] == 1 &&

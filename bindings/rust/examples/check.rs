@@ -34,7 +34,7 @@ fn main() -> ExitCode {
             fail(&format!("{line}: not a question: COMMAND USER GROUPS HOST MINUTE AGE ARGS"))
         }
         Some(Answer::Refused(refusal)) => print(&shown(name, &table, refusal), 1),
-        Some(_) => print(format!("{name}: ok\n").as_bytes(), 0),
+        Some(_) => print(format!("{}: ok for \"{line}\"\n", masked(name)).as_bytes(), 0),
     }
 }
 
@@ -79,8 +79,14 @@ fn number(text: &[u8]) -> Option<i64> {
     std::str::from_utf8(text).ok()?.parse().ok()
 }
 
+/// A name without the bytes that would move a terminal's cursor.
+fn masked(name: &str) -> String {
+    name.chars().map(|c| if c.is_ascii_control() { '?' } else { c }).collect()
+}
+
 /// The lines that tell a refusal.
 fn shown(name: &str, table: &[u8], refusal: Refusal) -> Vec<u8> {
+    let name = masked(name);
     if refusal == Refusal::LongTable {
         return format!("{name}: {refusal}\n").into_bytes();
     }

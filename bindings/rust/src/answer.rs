@@ -1,5 +1,6 @@
 //! Answers.
 
+use std::error::Error;
 use std::fmt;
 use std::ops::RangeInclusive;
 
@@ -7,6 +8,8 @@ use crate::cause::Cause;
 
 /// The one answer to a question.
 #[derive(Clone, Debug, PartialEq, Eq)]
+#[must_use]
+#[non_exhaustive]
 pub enum Answer {
     /// The command may be run.
     Permit(Permission),
@@ -46,6 +49,7 @@ pub struct Permission {
 
 /// Why nothing was decided. A place is counted in bytes of the table, from 0.
 #[derive(Clone, Copy, Debug, PartialEq, Eq)]
+#[non_exhaustive]
 pub enum Refusal {
     /// The question is not as [`Question`](crate::Question) says.
     Question,
@@ -61,6 +65,7 @@ pub enum Refusal {
 
 impl Answer {
     /// The number of the answer: 0 to 5 for a decision, 10 to 18 for a refusal.
+    #[must_use]
     pub fn number(&self) -> u8 {
         match self {
             Answer::Permit(_) => 0,
@@ -74,6 +79,7 @@ impl Answer {
     }
 
     /// Whether the table gave a decision.
+    #[must_use]
     pub fn is_decision(&self) -> bool {
         !matches!(self, Answer::Refused(_))
     }
@@ -81,6 +87,7 @@ impl Answer {
 
 impl Refusal {
     /// The number of the refusal.
+    #[must_use]
     pub fn number(self) -> u8 {
         match self {
             Refusal::Question => 10,
@@ -92,6 +99,7 @@ impl Refusal {
     }
 
     /// The place told beside the number.
+    #[must_use]
     pub fn place(self) -> usize {
         match self {
             Refusal::Question => 0,
@@ -103,6 +111,7 @@ impl Refusal {
     }
 
     /// One sentence: what is wrong, and what to do.
+    #[must_use]
     pub fn words(self) -> &'static str {
         match self {
             Refusal::Question => "the question is not of the form that is asked for; correct it",
@@ -127,3 +136,5 @@ impl fmt::Display for Refusal {
         write!(to, "refused {}: {}", self.number(), self.words())
     }
 }
+
+impl Error for Refusal {}

@@ -4,6 +4,7 @@ use std::fmt;
 
 /// Why a control line is refused; [`Cause::words`] says it in a sentence.
 #[derive(Clone, Copy, Debug, PartialEq, Eq, Hash)]
+#[non_exhaustive]
 pub enum Cause {
     /// The joined line has more than 4,096 bytes.
     LineLength,
@@ -98,21 +99,25 @@ const TOLD: [(Cause, u8, &str); 27] = [
 
 impl Cause {
     /// The cause with this number, which is 1 for the first.
+    #[must_use]
     pub fn from_number(number: usize) -> Option<Cause> {
         TOLD.get(number.checked_sub(1)?).map(|told| told.0)
     }
 
     /// The number of the cause, from 1 to 27.
+    #[must_use]
     pub fn number(self) -> usize {
         self as usize + 1
     }
 
     /// The answer that the cause gives: 14, 15, 16 or 18.
+    #[must_use]
     pub fn refusal(self) -> u8 {
         TOLD[self as usize].1
     }
 
     /// One sentence: what is wrong, and what to do.
+    #[must_use]
     pub fn words(self) -> &'static str {
         TOLD[self as usize].2
     }

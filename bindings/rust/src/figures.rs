@@ -22,6 +22,7 @@ impl Figures {
     /// # Panics
     ///
     /// Where the library that was linked does not give them.
+    #[must_use]
     pub fn new() -> Figures {
         let mut numbers = [0; FIGURES_LENGTH];
         // The array is our own.
@@ -61,42 +62,50 @@ impl Figures {
     }
 
     /// How many records have the answer with this number; 0 for one that no record has.
+    #[must_use]
     pub fn answered(&self, number: u8) -> u64 {
         self.count_of(figure::ANSWERS, 24, number.into())
     }
 
     /// How many records are of this weekday, from 0 for Monday to 6 for Sunday; 0 for a later one.
+    #[must_use]
     pub fn on_weekday(&self, day: usize) -> u64 {
         self.count_of(figure::WEEKDAYS, 7, day)
     }
 
     /// How many records are of this hour of the day, from 0 to 23; 0 for a later one.
+    #[must_use]
     pub fn in_hour(&self, hour: usize) -> u64 {
         self.count_of(figure::HOURS, 24, hour)
     }
 
     /// The sum of the ages below zero of the records with answer 0 or 1.
+    #[must_use]
     pub fn sum_below_zero(&self) -> i64 {
         self.numbers[figure::BELOW_ZERO_SUM]
     }
 
     /// The sum of the other ages of the records with answer 0 or 1; "never" is not among them. Their
     /// mean is this sum by [`age_count`](Figures::age_count).
+    #[must_use]
     pub fn age_sum(&self) -> i64 {
         self.numbers[figure::AGE_SUM]
     }
 
     /// How many ages [`age_sum`](Figures::age_sum) is the sum of.
+    #[must_use]
     pub fn age_count(&self) -> u64 {
         count(self.numbers[figure::AGE_COUNT])
     }
 
     /// How many records [`read_record`](crate::read_record) refuses.
+    #[must_use]
     pub fn refused(&self) -> u64 {
         count(self.numbers[figure::REFUSED])
     }
 
     /// How many records were given, the refused ones too; those past the limit are not among them.
+    #[must_use]
     pub fn given(&self) -> u64 {
         count(self.numbers[figure::GIVEN])
     }
@@ -135,6 +144,7 @@ pub enum FiguresRefusal {
 
 impl FiguresRefusal {
     /// The number of the refusal, in a list of its own.
+    #[must_use]
     pub fn number(self) -> u8 {
         match self {
             FiguresRefusal::NotWhole => 1,
@@ -143,6 +153,7 @@ impl FiguresRefusal {
     }
 
     /// One sentence: what is wrong, and what to do.
+    #[must_use]
     pub fn words(self) -> &'static str {
         match self {
             FiguresRefusal::NotWhole => {

@@ -28,6 +28,7 @@ pub struct Question<'a> {
 ///
 /// A zero byte inside a string is written as 1: no group and no argument may have either, so that
 /// the string stays one string and is refused for it.
+#[must_use]
 pub fn zero_ended<S: AsRef<[u8]>>(strings: &[S]) -> Vec<u8> {
     let mut bytes = Vec::new();
     for string in strings {

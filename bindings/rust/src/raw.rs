@@ -8,6 +8,9 @@ pub const BUFFER_LENGTH: usize = 2_048;
 /// The fewest numbers of the report.
 pub const REPORT_LENGTH: usize = 24;
 
+/// The bytes of stack that suffice for a thread which makes these calls.
+pub const STACK: usize = 98_304;
+
 /// The answer for a report with fewer numbers.
 pub const SMALL_REPORT: u8 = 255;
 

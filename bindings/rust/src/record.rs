@@ -37,6 +37,7 @@ pub enum RecordRefusal {
 
 impl RecordRefusal {
     /// The number of the refusal, in a list of its own.
+    #[must_use]
     pub fn number(self) -> u8 {
         match self {
             RecordRefusal::Version => 1,
@@ -47,6 +48,7 @@ impl RecordRefusal {
     }
 
     /// One sentence: what is wrong, and what to do.
+    #[must_use]
     pub fn words(self) -> &'static str {
         match self {
             RecordRefusal::Version => {

@@ -1,5 +1,6 @@
 //! Answers from a su file.
 
+use std::error::Error;
 use std::fmt;
 
 use crate::question::zero_ended;
@@ -20,6 +21,7 @@ pub struct SuQuestion<'a> {
 
 /// The one answer to a question. A line is the number, from 1, of the deciding line.
 #[derive(Clone, Copy, Debug, PartialEq, Eq)]
+#[must_use]
 pub enum SuAnswer {
     /// `NOPASS`: the user becomes the target, and no password is asked for.
     NoPassword { line: usize },
@@ -93,6 +95,7 @@ pub fn su_answer(file: &[u8], question: &SuQuestion) -> SuAnswer {
 
 impl SuAnswer {
     /// The number of the answer: 0 to 3 for a decision, 10 to 14 for a refusal.
+    #[must_use]
     pub fn number(self) -> u8 {
         match self {
             SuAnswer::NoPassword { .. } => su::NOPASS,
@@ -104,6 +107,7 @@ impl SuAnswer {
     }
 
     /// Whether the file gave a decision.
+    #[must_use]
     pub fn is_decision(self) -> bool {
         !matches!(self, SuAnswer::Refused(_))
     }
@@ -111,6 +115,7 @@ impl SuAnswer {
 
 impl SuRefusal {
     /// The number of the refusal.
+    #[must_use]
     pub fn number(self) -> u8 {
         match self {
             SuRefusal::Question => su::BAD_QUESTION,
@@ -122,6 +127,7 @@ impl SuRefusal {
     }
 
     /// The place told beside the number.
+    #[must_use]
     pub fn place(self) -> usize {
         match self {
             SuRefusal::Question => 0,
@@ -133,6 +139,7 @@ impl SuRefusal {
     }
 
     /// One sentence: what is wrong, and what to do.
+    #[must_use]
     pub fn words(self) -> &'static str {
         match self {
             SuRefusal::Question => "the question is not of the form that is asked for; correct it",
@@ -162,3 +169,5 @@ impl fmt::Display for SuRefusal {
         write!(to, "refused {}: {}", self.number(), self.words())
     }
 }
+
+impl Error for SuRefusal {}

@@ -76,7 +76,7 @@ fn causes_of_the_header() {
 #[test]
 fn answers_of_the_header() {
     // 01's table of answer numbers, with the one for a report that is too short.
-    let others = ["BUFFER_", "REPORT_", "CAUSE_", "RECORD_", "FIELD", "FIGURE", "SU_"];
+    let others = ["BUFFER_", "REPORT_", "CAUSE_", "RECORD_", "FIELD", "FIGURE", "SU_", "STACK"];
     let numbers: Vec<usize> = constants("SUPERTAB_")
         .into_iter()
         .filter(|(name, _)| !others.iter().any(|other| name.starts_with(other)))
@@ -85,6 +85,7 @@ fn answers_of_the_header() {
     let papers: Vec<usize> = (0..=5).chain(10..=18).chain([raw::SMALL_REPORT.into()]).collect();
     assert_eq!(numbers, papers);
     assert_eq!(constants("SUPERTAB_BUFFER_"), [("LENGTH".to_string(), raw::BUFFER_LENGTH)]);
+    assert_eq!(constants("SUPERTAB_STACK"), [(String::new(), raw::STACK)]);
 }
 
 #[test]

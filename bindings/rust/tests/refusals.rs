@@ -1,6 +1,8 @@
 //! Refusals: questions and tables that are not as they must be.
 
-use supertab::{answer, Answer, Cause, Question, Refusal};
+use supertab::{
+    answer, Answer, Cause, FiguresRefusal, Question, RecordRefusal, Refusal, SuRefusal,
+};
 
 const TABLE: &[u8] = b":global patterns=shell\nc /p *\n";
 
@@ -73,4 +75,17 @@ fn told_in_words() {
     assert_eq!((Refusal::LongTable.number(), Refusal::LongTable.place()), (11, 32_768));
     assert!(!Answer::Refused(refusal).is_decision());
     assert!(Answer::NoEntry.is_decision());
+}
+
+/// Every refusal is an error, so that `?` takes it.
+#[test]
+fn errors() {
+    fn first_word(error: impl std::error::Error + 'static) -> String {
+        let boxed: Box<dyn std::error::Error> = Box::new(error);
+        boxed.to_string().split(':').next().unwrap_or_default().to_owned()
+    }
+    assert_eq!(first_word(Refusal::CutShort { place: 2 }), "refused 13");
+    assert_eq!(first_word(SuRefusal::Line { place: 2 }), "refused 14");
+    assert_eq!(first_word(RecordRefusal::Version), "refused 1");
+    assert_eq!(first_word(FiguresRefusal::NotWhole), "refused 1");
 }
