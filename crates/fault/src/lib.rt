@@ -1,6 +1,7 @@
 // The causes for which a control line is refused, and the number told for each.
 ghost use mathlib.Core.Path.{_≡_};
 ghost use Rattle.fault.specs.Fault.{numberOf};
+ghost use Rattle.fault.specs.Contract.{IndexOf};
 
 pub enum Cause {
     // The joined line is too long.
@@ -59,39 +60,77 @@ pub enum Cause {
     TooManyNames,
 }
 
+// The number of each cause, in their order.
+const NUMBERS: [u8; 27] = [
+    15, // LineLength
+    14, // Indent
+    14, // OpenQuote
+    15, // FieldCount
+    14, // Variable
+    15, // FieldLength
+    14, // Pattern
+    15, // PatternSize
+    15, // NameLength
+    15, // TextLength
+    15, // IdLength
+    15, // IfDepth
+    14, // Alternative
+    14, // TimeItem
+    14, // OptionName
+    14, // OptionValue
+    16, // PatternKind
+    16, // EntryTooEarly
+    14, // ColonWord
+    14, // DefineName
+    14, // Operator
+    14, // LatePair
+    14, // Path
+    14, // SurplusField
+    14, // MissingPart
+    14, // OptionTwice
+    18, // TooManyNames
+];
+
 impl Cause {
+    // Where it stands in the order above; the first is 0.
+    pub fn index(self) -> usize
+        ensures { λ r. ⌜ IndexOf self r ⌝ }
+    {
+        match self {
+            Cause::LineLength => 0,
+            Cause::Indent => 1,
+            Cause::OpenQuote => 2,
+            Cause::FieldCount => 3,
+            Cause::Variable => 4,
+            Cause::FieldLength => 5,
+            Cause::Pattern => 6,
+            Cause::PatternSize => 7,
+            Cause::NameLength => 8,
+            Cause::TextLength => 9,
+            Cause::IdLength => 10,
+            Cause::IfDepth => 11,
+            Cause::Alternative => 12,
+            Cause::TimeItem => 13,
+            Cause::OptionName => 14,
+            Cause::OptionValue => 15,
+            Cause::PatternKind => 16,
+            Cause::EntryTooEarly => 17,
+            Cause::ColonWord => 18,
+            Cause::DefineName => 19,
+            Cause::Operator => 20,
+            Cause::LatePair => 21,
+            Cause::Path => 22,
+            Cause::SurplusField => 23,
+            Cause::MissingPart => 24,
+            Cause::OptionTwice => 25,
+            Cause::TooManyNames => 26,
+        }
+    }
+
     // The number of the refusal.
     pub fn number(self) -> u8
         ensures { λ r. ⌜ r ≡ numberOf self ⌝ }
     {
-        match self {
-            Cause::LineLength => 15,
-            Cause::Indent => 14,
-            Cause::OpenQuote => 14,
-            Cause::FieldCount => 15,
-            Cause::Variable => 14,
-            Cause::FieldLength => 15,
-            Cause::Pattern => 14,
-            Cause::PatternSize => 15,
-            Cause::NameLength => 15,
-            Cause::TextLength => 15,
-            Cause::IdLength => 15,
-            Cause::IfDepth => 15,
-            Cause::Alternative => 14,
-            Cause::TimeItem => 14,
-            Cause::OptionName => 14,
-            Cause::OptionValue => 14,
-            Cause::PatternKind => 16,
-            Cause::EntryTooEarly => 16,
-            Cause::ColonWord => 14,
-            Cause::DefineName => 14,
-            Cause::Operator => 14,
-            Cause::LatePair => 14,
-            Cause::Path => 14,
-            Cause::SurplusField => 14,
-            Cause::MissingPart => 14,
-            Cause::OptionTwice => 14,
-            Cause::TooManyNames => 18,
-        }
+        NUMBERS[self.index()]
     }
 }

@@ -1,7 +1,7 @@
 -- The numbers of the report. Assumes nothing.
 use mathlib.Core.Path.{_≡_, refl, sym, ap, _∙_}
 use mathlib.Core.Bool.{Bool, true, false}
-use mathlib.Core.List.{List, _∷_, _++_}
+use mathlib.Core.List.{List, _∷_, _++_, map}
 use Prim.Native.Nat.{ℕ, _+_, _≤_, _<_, min}
 use native.Mathlib.Nat.{zero-add}
 use native.Mathlib.Numerals.{add-one}
@@ -9,13 +9,16 @@ use native.Mathlib.Omega.{arith}
 use lib.IntN.{ℤ, pos}
 use lib.ListN.{length, getD, drop, set}
 use lib.Seq.{paste, paste-suc, take-all, drop-at}
+use Rattle.fault.specs.declared.Cause.{Cause}
+use Rattle.fault.specs.Contract.{causes, IndexOf}
+use Rattle.fault.proofs.Causes.{byIndex, agree-at}
 use Rattle.options.specs.declared.timeout.Timeout.{Timeout}
 use Rattle.options.specs.declared.timeout.Timeout.the-variants.{Minutes}
 use Rattle.options.specs.declared.span.Span.{Span}
 use Rattle.options.specs.declared.span.Span.the-variants.{Between}
 use Rattle.answer.specs.declared.Answer.{Answer}
 use Rattle.answer.specs.declared.Answer.the-variants.{Permit, Password, NoEntry, StoppedByNargs, StoppedByArgument, StoppedByPath, MalformedQuestion, LongTable, RefusedByte, CutShort, RefusedLine, SmallBuffer}
-use Rattle.supertab_c.specs.Report.{reportLength, most, counted, zeroPlace, bit, timeoutMinutes, nargsLow, nargsHigh, zeros, grantNumbers, placeNumbers, reportOf}
+use Rattle.supertab_c.specs.Report.{reportLength, most, counted, zeroPlace, bit, timeoutMinutes, nargsLow, nargsHigh, causeIndex, zeros, grantNumbers, placeNumbers, reportOf}
 use mir.Syntax.{w32, w64}
 use mir.Val.{SFits, toZ, ofZ}
 use mir.ValLaws.{toZ-ofZ, toZ-pos}
@@ -36,6 +39,14 @@ module _ (n : ℕ) where
   pub counted-within : n ≤ most → toZ w64 n ≡ counted n
   unfolding counted
   counted-within h = let e : min n most ≡ n = omega arith in rw e (toZ-pos w64 n (omega arith))
+
+-- the causes, counted from 1: one computed test
+counts : byIndex (λ i. counted (i + 1)) 0 causes ≡ map causeIndex causes
+unfolding counted causeIndex
+counts = refl
+
+pub cause-counted : {z : ℤ} (c : Cause) (i : ℕ) → IndexOf c i → z ≡ counted (i + 1) → z ≡ causeIndex c
+cause-counted c i h e = e ∙ agree-at (λ i. counted (i + 1)) causeIndex counts c i h
 
 -- a string that ends at 0 has no zero byte
 pub zero-none : {end : ℕ} → end ≡ 0 → pos 0 ≡ zeroPlace end

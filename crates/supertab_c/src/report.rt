@@ -127,35 +127,7 @@ fn high_of(nargs: Span) -> i64
 fn index_of(cause: Cause) -> i64
     ensures { λ r. ⌜ r ≡ causeIndex cause ⌝ }
 {
-    match cause {
-        Cause::LineLength => 1,
-        Cause::Indent => 2,
-        Cause::OpenQuote => 3,
-        Cause::FieldCount => 4,
-        Cause::Variable => 5,
-        Cause::FieldLength => 6,
-        Cause::Pattern => 7,
-        Cause::PatternSize => 8,
-        Cause::NameLength => 9,
-        Cause::TextLength => 10,
-        Cause::IdLength => 11,
-        Cause::IfDepth => 12,
-        Cause::Alternative => 13,
-        Cause::TimeItem => 14,
-        Cause::OptionName => 15,
-        Cause::OptionValue => 16,
-        Cause::PatternKind => 17,
-        Cause::EntryTooEarly => 18,
-        Cause::ColonWord => 19,
-        Cause::DefineName => 20,
-        Cause::Operator => 21,
-        Cause::LatePair => 22,
-        Cause::Path => 23,
-        Cause::SurplusField => 24,
-        Cause::MissingPart => 25,
-        Cause::OptionTwice => 26,
-        Cause::TooManyNames => 27,
-    }
+    counted_as(cause.index() + 1)
 }
 
 // The numbers of a permit.

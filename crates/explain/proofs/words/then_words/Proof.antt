@@ -1,255 +1,65 @@
-use mathlib.Core.Path.{ap}
+use mathlib.Core.Path.{sym}
+use native.Mathlib.Omega.{arith}
 use borrow.Author.Needs.{needs}
-use Rattle.explain.specs.Words.{wordsOf}
 use Rattle.output.proofs.BehindLaws.{after-as}
-use Rattle.explain.proofs.WordsLaws.{malformed-number}
+use Rattle.explain.specs.Words.{wordsOf}
+use Rattle.explain.proofs.WordsLaws.{table, places, part-words, part-inside}
 use Rattle.explain.proofs.words.then_words.Statement.{statement}
 use Rattle.explain.proofs.words.then_words.Tie as tie
 
-enum-told : tie.Need-enum-told
-enum-told c = search needs
+index-requires : tie.Need-index-requires
+index-requires c κs = search needs
 
-slice-aggregate-then-all : tie.Need-slice-aggregate-then-all
-slice-aggregate-then-all c = search needs
+mul-start : tie.Need-mul-start
+mul-start c = search needs
+
+array-read-start : tie.Need-array-read-start
+array-read-start c = search needs
+
+add-end : tie.Need-add-end
+add-end c = search needs
+
+mul-end : tie.Need-mul-end
+mul-end c = search needs
+
+array-read-end : tie.Need-array-read-end
+array-read-end c = search needs
+
+sub-then-all : tie.Need-sub-then-all
+unfolding table places wordsOf
+sub-then-all c = omega (arith, part-inside _ _ (c .index .ensures) .0)
+
+part-then-all-start : tie.Need-part-then-all-start
+unfolding table places wordsOf
+part-then-all-start c = omega (arith, part-inside _ _ (c .before .index .ensures) .0)
+
+part-then-all-end : tie.Need-part-then-all-end
+unfolding table places wordsOf
+part-then-all-end c = omega (arith, part-inside _ _ (c .before .index .ensures) .1)
 
 then-all-requires : tie.Need-then-all-requires
 then-all-requires c κs = search needs
-
-enum-told-2 : tie.Need-enum-told-2
-enum-told-2 c = search needs
-
-slice-aggregate-then-all-2 : tie.Need-slice-aggregate-then-all-2
-slice-aggregate-then-all-2 c = search needs
-
-then-all-requires-2 : tie.Need-then-all-requires-2
-then-all-requires-2 c κs = search needs
-
-enum-told-3 : tie.Need-enum-told-3
-enum-told-3 c = search needs
-
-slice-aggregate-then-all-3 : tie.Need-slice-aggregate-then-all-3
-slice-aggregate-then-all-3 c = search needs
-
-then-all-requires-3 : tie.Need-then-all-requires-3
-then-all-requires-3 c κs = search needs
-
-enum-told-4 : tie.Need-enum-told-4
-enum-told-4 c = search needs
-
-slice-aggregate-then-all-4 : tie.Need-slice-aggregate-then-all-4
-slice-aggregate-then-all-4 c = search needs
-
-then-all-requires-4 : tie.Need-then-all-requires-4
-then-all-requires-4 c κs = search needs
-
-enum-told-5 : tie.Need-enum-told-5
-enum-told-5 c = search needs
-
-slice-aggregate-then-all-5 : tie.Need-slice-aggregate-then-all-5
-slice-aggregate-then-all-5 c = search needs
-
-then-all-requires-5 : tie.Need-then-all-requires-5
-then-all-requires-5 c κs = search needs
-
-enum-told-6 : tie.Need-enum-told-6
-enum-told-6 c = search needs
-
-slice-aggregate-then-all-6 : tie.Need-slice-aggregate-then-all-6
-slice-aggregate-then-all-6 c = search needs
-
-then-all-requires-6 : tie.Need-then-all-requires-6
-then-all-requires-6 c κs = search needs
-
-enum-told-7 : tie.Need-enum-told-7
-enum-told-7 c = search needs
-
-slice-aggregate-then-all-7 : tie.Need-slice-aggregate-then-all-7
-slice-aggregate-then-all-7 c = search needs
-
-then-all-requires-7 : tie.Need-then-all-requires-7
-then-all-requires-7 c κs = search needs
-
-enum-told-8 : tie.Need-enum-told-8
-enum-told-8 c = search needs
-
-slice-aggregate-then-all-8 : tie.Need-slice-aggregate-then-all-8
-slice-aggregate-then-all-8 c = search needs
-
-then-all-requires-8 : tie.Need-then-all-requires-8
-then-all-requires-8 c κs = search needs
-
-enum-told-9 : tie.Need-enum-told-9
-enum-told-9 c = search needs
-
-slice-aggregate-then-all-9 : tie.Need-slice-aggregate-then-all-9
-slice-aggregate-then-all-9 c = search needs
-
-then-all-requires-9 : tie.Need-then-all-requires-9
-then-all-requires-9 c κs = search needs
-
-enum-told-10 : tie.Need-enum-told-10
-enum-told-10 c = search needs
-
-slice-aggregate-then-all-10 : tie.Need-slice-aggregate-then-all-10
-slice-aggregate-then-all-10 c = search needs
-
-then-all-requires-10 : tie.Need-then-all-requires-10
-then-all-requires-10 c κs = search needs
-
-enum-told-11 : tie.Need-enum-told-11
-enum-told-11 c = search needs
-
-slice-aggregate-then-all-11 : tie.Need-slice-aggregate-then-all-11
-slice-aggregate-then-all-11 c = search needs
-
-then-all-requires-11 : tie.Need-then-all-requires-11
-then-all-requires-11 c κs = search needs
-
-then-malformed-words-requires : tie.Need-then-malformed-words-requires
-then-malformed-words-requires c κs = malformed-number _ (c .before .match .keys12)
 
 same-length : tie.Need-same-length
 same-length c = search needs
 
 returns : tie.Need-returns
-unfolding wordsOf
-returns c = after-as (c .before .before .then-all .ensures) (ap wordsOf (c .before .before .before .before .before .enum-told .given .1))
-
-same-length-2 : tie.Need-same-length-2
-same-length-2 c = search needs
-
-returns-2 : tie.Need-returns-2
-unfolding wordsOf
-returns-2 c = after-as (c .before .before .then-all2 .ensures) (ap wordsOf (c .before .before .before .before .before .enum-told2 .given .1))
-
-same-length-3 : tie.Need-same-length-3
-same-length-3 c = search needs
-
-returns-3 : tie.Need-returns-3
-unfolding wordsOf
-returns-3 c = after-as (c .before .before .then-all3 .ensures) (ap wordsOf (c .before .before .before .before .before .enum-told3 .given .1))
-
-same-length-4 : tie.Need-same-length-4
-same-length-4 c = search needs
-
-returns-4 : tie.Need-returns-4
-unfolding wordsOf
-returns-4 c = after-as (c .before .before .then-all4 .ensures) (ap wordsOf (c .before .before .before .before .before .enum-told4 .given .1))
-
-same-length-5 : tie.Need-same-length-5
-same-length-5 c = search needs
-
-returns-5 : tie.Need-returns-5
-unfolding wordsOf
-returns-5 c = after-as (c .before .before .then-all5 .ensures) (ap wordsOf (c .before .before .before .before .before .enum-told5 .given .1))
-
-same-length-6 : tie.Need-same-length-6
-same-length-6 c = search needs
-
-returns-6 : tie.Need-returns-6
-unfolding wordsOf
-returns-6 c = after-as (c .before .before .then-all6 .ensures) (ap wordsOf (c .before .before .before .before .before .enum-told6 .given .1))
-
-same-length-7 : tie.Need-same-length-7
-same-length-7 c = search needs
-
-returns-7 : tie.Need-returns-7
-unfolding wordsOf
-returns-7 c = after-as (c .before .before .then-all7 .ensures) (ap wordsOf (c .before .before .before .before .before .enum-told7 .given .1))
-
-same-length-8 : tie.Need-same-length-8
-same-length-8 c = search needs
-
-returns-8 : tie.Need-returns-8
-unfolding wordsOf
-returns-8 c = after-as (c .before .before .then-all8 .ensures) (ap wordsOf (c .before .before .before .before .before .enum-told8 .given .1))
-
-same-length-9 : tie.Need-same-length-9
-same-length-9 c = search needs
-
-returns-9 : tie.Need-returns-9
-unfolding wordsOf
-returns-9 c = after-as (c .before .before .then-all9 .ensures) (ap wordsOf (c .before .before .before .before .before .enum-told9 .given .1))
-
-same-length-10 : tie.Need-same-length-10
-same-length-10 c = search needs
-
-returns-10 : tie.Need-returns-10
-unfolding wordsOf
-returns-10 c = after-as (c .before .before .then-all10 .ensures) (ap wordsOf (c .before .before .before .before .before .enum-told10 .given .1))
-
-same-length-11 : tie.Need-same-length-11
-same-length-11 c = search needs
-
-returns-11 : tie.Need-returns-11
-unfolding wordsOf
-returns-11 c = after-as (c .before .before .then-all11 .ensures) (ap wordsOf (c .before .before .before .before .before .enum-told11 .given .1))
-
-same-length-12 : tie.Need-same-length-12
-same-length-12 c = search needs
-
-returns-12 : tie.Need-returns-12
-returns-12 c = c .before .before .then-malformed-words .ensures
+unfolding table places wordsOf
+returns c = after-as (c .before .before .then-all .ensures) (sym (part-words _ _ (c .before .before .before .before .before .before .index .ensures)))
 
 pub then-words-spec : {M : Type 1} → statement M
 then-words-spec =
     tie.close
     (tie.spec
-    enum-told
-    slice-aggregate-then-all
+    index-requires
+    mul-start
+    array-read-start
+    add-end
+    mul-end
+    array-read-end
+    sub-then-all
+    part-then-all-start
+    part-then-all-end
     then-all-requires
-    enum-told-2
-    slice-aggregate-then-all-2
-    then-all-requires-2
-    enum-told-3
-    slice-aggregate-then-all-3
-    then-all-requires-3
-    enum-told-4
-    slice-aggregate-then-all-4
-    then-all-requires-4
-    enum-told-5
-    slice-aggregate-then-all-5
-    then-all-requires-5
-    enum-told-6
-    slice-aggregate-then-all-6
-    then-all-requires-6
-    enum-told-7
-    slice-aggregate-then-all-7
-    then-all-requires-7
-    enum-told-8
-    slice-aggregate-then-all-8
-    then-all-requires-8
-    enum-told-9
-    slice-aggregate-then-all-9
-    then-all-requires-9
-    enum-told-10
-    slice-aggregate-then-all-10
-    then-all-requires-10
-    enum-told-11
-    slice-aggregate-then-all-11
-    then-all-requires-11
-    then-malformed-words-requires
     same-length
-    returns
-    same-length-2
-    returns-2
-    same-length-3
-    returns-3
-    same-length-4
-    returns-4
-    same-length-5
-    returns-5
-    same-length-6
-    returns-6
-    same-length-7
-    returns-7
-    same-length-8
-    returns-8
-    same-length-9
-    returns-9
-    same-length-10
-    returns-10
-    same-length-11
-    returns-11
-    same-length-12
-    returns-12)
+    returns)
