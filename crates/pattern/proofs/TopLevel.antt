@@ -26,22 +26,7 @@ use Rattle.pattern.proofs.Expanding.{told, wrapped, pieces-are, pieces-
 use Rattle.pattern.proofs.Expansions.{counts, nth-is}
 use Rattle.pattern.proofs.Alone.{never-closes}
 use Rattle.pattern.proofs.Lengths.{alternative-room}
-use Rattle.pattern.proofs.WholeLaws.{fits-few, good, expansions-are, expansions-wrapped}
-
--- ---- what the answer of `alternative_at` tells
-module _ (syntax : Syntax) (p : List ℕ) (at : ℕ) where
-  pub flat-told : (e : ℕ) → RunAt syntax false p at (Ends e) → AlternativeAt p at (Flat e) (patternOf syntax false (drop at p))
-  unfolding expansionsIn
-  flat-told e w =
-      let q : patternOf syntax false (drop at p) ≡ parsed (wrapped (w .pieces) empty) (drop e p) = w .reads ∙ pieces-are (w .pieces) empty (drop e p) in
-      let z : expansionsIn (patternOf syntax false (drop at p)) ≡ take (e - at) (drop at p) ∷ [] = rw q (expansions-wrapped (w .pieces) ∙ rw (w .spans .written)) in
-      (record { tree = wrapped (w .pieces) empty; is = q; low = w .spans .low; high = w .spans .high }, z)
-
-  pub braced-told : (e d n : ℕ) → Tells p at (Done e d n) (patternOf syntax false (drop at p)) → AlternativeAt p at (Braced e n) (patternOf syntax false (drop at p))
-  braced-told e d n w = let t = told _ _ _ _ _ _ w in (record { tree = t .tree; is = t .is; low = w .within .low; high = w .within .high }, t .count)
-
-  pub run-malformed : RunAt syntax false p at RunMalformed → patternOf syntax false (drop at p) ≡ malformed
-  run-malformed w = w .reads ∙ pieces-none (w .pieces)
+use Rattle.pattern.proofs.WholeLaws.{fits-few, good, expansions-are}
 
 -- ---- one expansion of an alternative
 pub chosen-is : (o : TreeRead) (n k : ℕ) → HasNumber o n → k < n → getD (expansionsIn o) k [] ≡ chosen k o

@@ -223,28 +223,6 @@ kth-alone syntax p n k c e h =
     record { numbers = rw (← (alone syntax c p), e) (w .numbers); few = omega (arith, w .few); is = rw (← (alone syntax c p)) (w .is) }
 
 -- ---- a pattern with no brace and no comma that parts is its own only expansion
-depth-wrapped : (ws : List (List ℕ)) → depth (wrapped ws empty) ≡ 0
-unfolding depth
-depth-wrapped [] = refl
-depth-wrapped (w ∷ ws) = depth-wrapped ws
-
-pub expansions-wrapped : (ws : List (List ℕ)) → expansions (wrapped ws empty) ≡ flat ws ∷ []
-unfolding expansions flat
-expansions-wrapped [] = refl
-expansions-wrapped (w ∷ ws) = rw (expansions-wrapped ws)
-
-fits-wrapped : (ws : List (List ℕ)) → fits (wrapped ws empty) ≡ true
-unfolding fits number
-fits-wrapped ws = rw (depth-wrapped ws, number-wrapped ws empty)
-
-pub flat-is : (syntax : Syntax) (p : List ℕ) (e : ℕ) → RunAt syntax false p 0 (Ends e) → length p ≤ e → expansionsOf syntax p ≡ p ∷ []
-unfolding treeOf
-flat-is syntax p e w g =
-    let f : patternOf syntax false p ≡ parsed (wrapped (w .pieces) empty) [] = w .reads ∙ rw (drop-of-length-le p g) (pieces-are (w .pieces) empty []) in
-    let q : treeOf syntax p ≡ some (wrapped (w .pieces) empty) = rw (list-first syntax false p, f) in
-    let z : flat (w .pieces) ≡ p = w .spans .written ∙ take-all (e - 0) p (omega arith) in
-    expansions-are syntax p _ (expanded-good syntax p (wrapped (w .pieces) empty) q (fits-wrapped (w .pieces))) ∙ expansions-wrapped (w .pieces) ∙ rw z
-
 module _ (syntax : Syntax) (p : List ℕ) (e : expansionsOf syntax p ≡ p ∷ []) where
   pub flat-expanded : expanded syntax p ≡ value (p ∷ [])
   unfolding expansionsOf

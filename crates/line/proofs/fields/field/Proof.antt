@@ -48,7 +48,7 @@ part-result-end-2 : tie.Need-part-result-end-2
 part-result-end-2 c = search needs
 
 returns-2 : tie.Need-returns-2
-returns-2 c = field-here _ _ _ _ _ _ (rw (c .before .before .before .before .before .before .at-most .ensures .0) at (c .before .before .before .before .before .if1 .left)) (c .before .before .before .at-most2 .ensures .0) (rw (c .before .before .start-of .ensures (omega arith)) at (c .before .at-most3 .ensures .0))
+returns-2 c = field-here _ _ _ _ _ _ (rw (c .before .before .before .before .before .before .at-most .ensures .0) at (c .before .before .before .before .before .if1 .left)) (c .before .before .before .at-most2 .ensures .0) (rw (c .before .before .start-of .ensures) at (c .before .at-most3 .ensures .0))
 
 pub field-spec : {M : Type 1} → statement M
 field-spec =
