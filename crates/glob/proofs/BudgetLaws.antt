@@ -3,7 +3,7 @@ use mathlib.Core.Path.{_≡_}
 use Prim.Native.Nat.{ℕ, _+_, _*_, _-_, _≤_, _<_}
 use native.Mathlib.Nat.{le-mul-of-pos-right}
 use native.Mathlib.Omega.{arith}
-use Rattle.glob.specs.Contract.{worth, Usable, OneLess, Covers}
+use Rattle.glob.specs.Contract.{worth, Usable, OneLess, Covers, IsProduct}
 use Rattle.glob.specs.declared.matcher.Budget.{Budget}
 
 -- ---- one test
@@ -33,15 +33,15 @@ spend-row row b g u n h f =
     record { usable = g; spent = rw k (rows-next (b .rows) (b .rows - 2) row (b .used) (omega arith) g (omega arith)) }
 
 -- ---- the tests of all bytes
--- at the beginning it is the product of the two lengths
-pub budget-is : (row n : ℕ) → worth row record { rows = n; used = 0 } ≡ row * n
+-- so many rows, of which nothing is used, are the product of the two lengths
+pub budget-is : (row n : ℕ) → IsProduct row n record { rows = n; used = 0 }
 unfolding worth
-budget-is row n = omega arith
+budget-is row n = record { usable = omega arith; exact = omega arith }
 
-pub covers-all : (row n : ℕ) → Covers row (n - 0) record { rows = n; used = 0 }
-covers-all row n =
+pub covers-all : {row n : ℕ} {b : Budget} → IsProduct row n b → Covers row (n - 0) b
+covers-all {row} {n} w =
     let k : n - 0 ≡ n = omega arith in
-    record { usable = omega arith; enough = rw k (omega (arith, budget-is row n)) }
+    record { usable = w .usable; enough = rw k (omega (arith, w .exact)) }
 
 pub covers-row : (row n : ℕ) (b : Budget) → Covers row n b → 0 < n → row ≤ worth row b
 covers-row row n b c h = go (n - 1) (omega arith)
