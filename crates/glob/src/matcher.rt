@@ -109,7 +109,7 @@ pub enum Tried {
 
 // Tries the pattern from `i` on at the name's byte `j`, up to the next star and without going back.
 fn try_at(p: &[u8], i: usize, name: &[u8], j: usize, budget: Budget) -> Tried
-    requires { ⌜ (i ≤ length (now p)) × (j ≤ length (now name)) × Covers (length (now p)) (length (now name) - j) budget ⌝ }
+    requires { ⌜ (i ≤ length (now p)) × (j ≤ length (now name)) × Covers (length (now p)) (length (now name) - j) (length (now name)) budget ⌝ }
     ensures { λ r. ⌜ Tries (now (p .entry)) i (now (name .entry)) j budget r ⌝ }
 {
     let mut at = i;

@@ -11,7 +11,7 @@ use Rattle.glob.proofs.matcher.search.Statement.{statement}
 use Rattle.glob.proofs.matcher.search.Tie as tie
 
 abbrev Inv-loop : tie.InvT-loop
-Inv-loop p name star₀ from₀ left₀ star from left = (star ≤ length p) × (from ≤ length name) × Covers (length p) (length name - from) left × (sought star (drop star p) (drop from name) ≡ matches p name)
+Inv-loop p name star₀ from₀ left₀ star from left = (star ≤ length p) × (from ≤ length name) × Covers (length p) (length name - from) (length name) left × (sought star (drop star p) (drop from name) ≡ matches p name)
 
 abbrev μ-loop : tie.MeasureT-loop
 μ-loop p name star₀ from₀ left₀ star from left = (length p - star) + (length name - from)
