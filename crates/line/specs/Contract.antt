@@ -39,7 +39,7 @@ pub record Reaches (c : ℕ) (t : List ℕ) (i r : ℕ) : Type 0 where
   pub low : i ≤ r
   pub high : r ≤ length t
   pub stops : r < length t → getD t r 0 ≡ c
-  pub none : (j : ℕ) → i ≤ j → j < r → getD t j 0 ≡ c → ⊥
+  pub absent : (j : ℕ) → i ≤ j → j < r → getD t j 0 ≡ c → ⊥
 
 -- the lines from a place on where one begins, the first of them with this number; from 0 and 1 on they are `linesOf`
 abbrev pub linesFrom : (ℕ → Bool) → List ℕ → ℕ → ℕ → List Line
@@ -49,7 +49,7 @@ linesFrom continues t at number = placed at number (endedLines continues false (
 pub record LineEnds (continues : ℕ → Bool) (t : List ℕ) (at e count : ℕ) : Type 0 where
   pub low : at < e
   pub high : e ≤ length t
-  pub some : 0 < count
+  pub positive : 0 < count
   pub few : at + count ≤ e
   pub counts : count ≡ newlines (take (e - at) (drop at t))
   pub reads : (number : ℕ) → linesFrom continues t at number ≡ line at e number (take (e - 1 - at) (drop at t)) ∷ linesFrom continues t e (number + count)

@@ -2,7 +2,7 @@
 use mathlib.Core.Path.{_≡_, refl, sym, ap, _∙_}
 use mathlib.Core.Bool.{Bool, true, false}
 use mathlib.Core.List.{List, [], _∷_, _++_, append-nil}
-use mathlib.Core.Option.{Option, none, some}
+use mathlib.Core.Option.{some}
 use Prim.Native.Nat.{ℕ, _+_, _-_, _≤_, _<_, min}
 use native.Mathlib.Omega.{arith}
 use native.Mathlib.Decide.{decLe}
@@ -16,7 +16,7 @@ use Rattle.pattern.specs.declared.run.RunRead.the-variants.{Opens, Ends,
 use Rattle.pattern.specs.declared.braces.ListRead.the-variants.{Done}
 use Rattle.pattern.specs.declared.alternatives.Alternative.{Alternative}
 use Rattle.pattern.specs.declared.alternatives.Alternative.the-variants.{Flat, Braced, Malformed as AlternativeMalformed}
-use Rattle.pattern.specs.Tree.{Tree, empty, piece, list, or, depth, number, expansions, fits, TreeRead, parsed, malformed, bind, patternOf, listOf, treeIn, treeOf}
+use Rattle.pattern.specs.Tree.{Tree, empty, piece, list, or, depth, number, fits, TreeRead, parsed, malformed, bind, patternOf, listOf, treeIn, treeOf}
 use Rattle.pattern.specs.Whole.{expansionsOf}
 use Rattle.pattern.specs.Contract.{opening, withPieces, RunAt, Tells, expansionsIn, EndsBefore, AlternativeAt, onlyPieces, flatTree, isFlat, alternativeParsed, alternativeFrom}
 use Rattle.pattern.proofs.TreeLaws.{list-first}

@@ -153,7 +153,7 @@ pub record ReadBounds (p : List ℕ) (at next d n : ℕ) : Type 0 where
   pub low : at ≤ next
   pub high : next ≤ length p
   pub deep : at + d ≤ next
-  pub some : 0 < n
+  pub positive : 0 < n
   pub small : n ≤ 65
 
 abbrev pub BoundsIn : List ℕ → ℕ → ListRead → Type 0

@@ -8,7 +8,7 @@ use Rattle.fault.specs.Fault.{readAll}
 use Rattle.pattern.specs.Tree.{listOf}
 use Rattle.pattern.specs.Whole.{expansionsOf}
 use Rattle.pattern.specs.Contract.{expansionsIn, Few}
-use Rattle.pattern.proofs.TopLevel.{First, first-told, whole-few, whole-all}
+use Rattle.pattern.proofs.TopLevel.{first-told, whole-few, whole-all}
 use Rattle.pattern.proofs.FlatLaws.{alternative-told}
 use Rattle.condition.specs.Contract.{sortIn, judgeBy, addedBy}
 use Rattle.condition.specs.Condition.{alternativeRead}

@@ -1,5 +1,4 @@
 use Rattle.line.proofs.AccessLaws.{field-past, field-here}
-use native.Mathlib.Omega.{arith}
 use borrow.Author.Needs.{needs}
 use Rattle.line.proofs.fields.field.Statement.{statement}
 use Rattle.line.proofs.fields.field.Tie as tie
