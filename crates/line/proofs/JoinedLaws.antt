@@ -9,7 +9,7 @@ use native.Mathlib.Decide.{decLe}
 use native.Mathlib.Numerals.{add-one}
 use borrow.Author.Tests.{eqb-true, ne-eqb, eq-eqb}
 use lib.Dec.{eqb}
-use lib.ListN.{length, take, drop, getD, drop-of-length-le, List·getD-eq-default}
+use lib.ListN.{length, take, drop, getD, drop-of-length-le}
 use lib.Seq.{drop-cons, drop-drop, getD-drop}
 use Rattle.text.specs.Bytes.{byte, is}
 use Rattle.text.specs.Class.{blank}
@@ -61,9 +61,6 @@ module _ (x : ℕ) (s : List ℕ) (i : ℕ) where
 
   pub before-none : i ≤ 0 → x ≡ getD (x ∷ s) i 0
   before-none h = let z : i ≡ 0 = omega arith in rw z
-
-  pub before-past : length s < i → 0 ≡ getD (x ∷ s) i 0
-  before-past h = let g : length (x ∷ s) ≤ i = omega arith in sym (List·getD-eq-default (x ∷ s) 0 g)
 
 module _ (line : List ℕ) (i : ℕ) (h : i < length line) where
   pub joins-not : (getD line i 0 ≡ 92 → ⊥) → false ≡ joinsAt (drop i line)

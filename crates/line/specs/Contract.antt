@@ -5,7 +5,7 @@ use mathlib.Core.Bool.{false, Bool, true, not, cond, _&&_, _||_}
 use mathlib.Core.List.{List, [], _∷_, _++_}
 use mathlib.Core.Option.{Option, none, some}
 use lib.ListN.{length, take, drop, getD, set}
-use lib.Dec.{ltb}
+use lib.Dec.{leb, ltb}
 use Rattle.text.specs.declared.slice.Found.{Found}
 use Rattle.text.specs.declared.slice.Found.the-variants.{At as FoundAt, Nothing}
 use Rattle.text.specs.Bytes.{byte, is}
@@ -156,6 +156,10 @@ fieldsAt text start (e ∷ ends) (suc n) = take (e - start) (drop start text) �
 -- as many as are counted, and there is room for
 unfoldable pub fieldsIn : List ℕ → List ℕ → ℕ → List (List ℕ)
 fieldsIn text ends count = fieldsAt text 0 ends (min count mostFields)
+
+-- where the field with a number begins: at the end of the one before it; 0 where there is no room for so many
+unfoldable pub fieldStart : List ℕ → ℕ → ℕ
+fieldStart ends i = cond (leb i mostFields) (getD (0 ∷ ends) i 0) 0
 
 -- where fields end that are laid one behind the other from a place on
 unfoldable pub endsFrom : ℕ → List (List ℕ) → List ℕ
