@@ -29,11 +29,11 @@ rightmost-append (x ∷ xs) ys = rw (rightmost-append xs ys) (or-assoc (rightmos
 pub record Keeps (r t : Rightmost) (xs : List Judged) : Type 0 where
   pub says : (d : Bool) → saysOr t d ≡ Option·getD (rightmost xs) (saysOr r d)
   pub negated : t .negated ≡ r .negated && all (λ x. x .negated) xs
-  pub some : t .some ≡ r .some || not (null xs)
+  pub present : t .some ≡ r .some || not (null xs)
 
 pub keeps : (r : Rightmost) (xs : List Judged) → Keeps r (addedAll r xs) xs
 unfolding addedAll rightmost all
-keeps r [] = record { says = λ d. refl; negated = and-true (r .negated); some = or-false (r .some) }
+keeps r [] = record { says = λ d. refl; negated = and-true (r .negated); present = or-false (r .some) }
   where
     and-true : (b : Bool) → b ≡ b && true
     and-true true = refl
@@ -47,7 +47,7 @@ keeps r (x ∷ xs) =
     record {
       says = λ d. k .says d ∙ said d (rightmost xs) (x .applies) (x .negated);
       negated = k .negated ∙ both-assoc (r .negated) (x .negated) (all (λ y. y .negated) xs);
-      some = k .some ∙ or-true (r .some);
+      present = k .present ∙ or-true (r .some);
     }
   where
     or-true : (b : Bool) → true ≡ b || true
@@ -68,7 +68,7 @@ unfolding timesAccept
 times-said xs = let k = keeps noneKept xs in k .says (addedAll noneKept xs .negated) ∙ ap (Option·getD (rightmost xs)) (k .negated)
 
 pub any-kept : (xs : List Judged) → addedAll noneKept xs .some ≡ not (null xs)
-any-kept xs = keeps noneKept xs .some
+any-kept xs = keeps noneKept xs .present
 
 -- alternatives added one run after the other
 pub added-append : (r : Rightmost) (xs ys : List Judged) → addedAll r (xs ++ ys) ≡ addedAll (addedAll r xs) ys

@@ -12,7 +12,6 @@ use Rattle.text.proofs.Buffers.{wrote-done}
 use Rattle.answer.specs.declared.Answer.{Answer}
 use Rattle.answer.specs.declared.Answer.the-variants.{MalformedQuestion}
 use Rattle.text.specs.Buffer.{laid}
-use Rattle.text.proofs.Laws.{clash}
 use Rattle.question.specs.declared.WeekMinute.{WeekMinute}
 use Rattle.question.specs.declared.LastAuthentication.{LastAuthentication}
 use Rattle.question.specs.declared.LastAuthentication.the-variants.{Never}
@@ -45,17 +44,14 @@ module _ {line scratch : List ℕ} {r : QuestionLine} (w : Reads line (askedIn l
   pub malformed-told : (table b : List ℕ) → r ≡ Malformed → Answers table line b b (record { answer = MalformedQuestion; minute = record { 0 = 0 }; last = Never })
   malformed-told table b e =
       let n : none ≡ askedIn line = rw e at (w .asks) in
-      record { outcome = rw (← n); asked = λ a f. clash cc }
+      record { outcome = rw (← n); minute = rw (← n); last = rw (← n) }
 
   pub asked-told : (table old : List ℕ) {p : Pieces} {a : Answer} {new : List ℕ} → r ≡ Asks p
       → result a new ≡ answerOf table (record { command = part line 0 (p .command); user = part line (p .command + 1) (p .user); groups = part scratch 0 (p .groups); host = part line (p .list + 1) (p .host); minute = p .minute; age = p .last; args = part scratch (p .groups) (p .args) }) old
       → Answers table line old new (record { answer = a; minute = p .minute; last = p .last })
   asked-told table old {p} e f =
       let s : askedBy line scratch (Asks p) ≡ askedIn line = rw e at (w .asks) in
-      record { outcome = rw (← s) f; asked = λ a g. same (s ∙ g) }
-    where
-      same : {x y : Asked} → some x ≡ some y → (x .minute ≡ y .minute) × (x .age ≡ y .age)
-      same {x} {y} g = let z : x ≡ y = cc in (ap (λ q. q .minute) z, ap (λ q. q .age) z)
+      record { outcome = rw (← s) f; minute = rw (← s); last = rw (← s) }
 
 -- what is told of the outcome, with a new buffer
 pub told-for : (table : List ℕ) (o : Option Asked) {a : Answer} {new : List ℕ} → result a new ≡ outcomeFor table o (replicate leastBuffer 0) → toldOf a new ≡ toldFor table o
@@ -77,7 +73,7 @@ module _ (table line : List ℕ) {buffer : List ℕ} {a : Answered} (x : Answers
     where
       go : (o : Option Asked) → askedIn line ≡ o → recordBytes (fieldsBy (result (a .answer) buffer) (a .minute) (a .last)) ≡ loggedFor table o
       go none e = ap (λ r. recordBytes (fieldsBy r (a .minute) (a .last))) (x .outcome ∙ rw e) ∙ refused-record (a .minute) (a .last) (replicate leastBuffer 0)
-      go (some q) e = rw (x .outcome, e, x .asked q e .0, x .asked q e .1)
+      go (some q) e = rw (x .outcome, x .minute, x .last, e)
 
   pub recorded : {old new : List ℕ} {r : Recorded} {k : ℕ} → Records (result (a .answer) buffer) (a .minute) (a .last) old new r → k ≡ bytesWritten r
       → (k ≡ length (recordWithin (length old) (logged table line))) × (new ≡ laid old 0 (recordWithin (length old) (logged table line)))

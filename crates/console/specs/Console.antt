@@ -3,6 +3,9 @@ use mathlib.Core.List.{List, []}
 use mathlib.Core.Option.{Option, none, some}
 use Prim.Native.Nat.{ℕ}
 use lib.ListN.{replicate}
+use Rattle.question.specs.declared.WeekMinute.{WeekMinute}
+use Rattle.question.specs.declared.LastAuthentication.{LastAuthentication}
+use Rattle.question.specs.declared.LastAuthentication.the-variants.{Never}
 use Rattle.answer.specs.declared.Answer.the-variants.{MalformedQuestion}
 use Rattle.answer.specs.Answer.{leastBuffer, Outcome, result, Told, told, atPlace, toldBy}
 use Rattle.answer.specs.Meaning.{Asked, answerOf}
@@ -19,6 +22,15 @@ toldFor table (some asked) = toldBy (answerOf table asked (replicate leastBuffer
 abbrev pub outcomeFor : List ℕ → Option Asked → List ℕ → Outcome
 outcomeFor table none b = result MalformedQuestion b
 outcomeFor table (some asked) b = answerOf table asked b
+
+-- the minute that a line asks with, and the age: 0 and never for a line not of this form
+abbrev pub minuteFor : Option Asked → WeekMinute
+minuteFor none = record { 0 = 0 }
+minuteFor (some asked) = asked .minute
+
+abbrev pub ageFor : Option Asked → LastAuthentication
+ageFor none = Never
+ageFor (some asked) = asked .age
 
 -- what is printed for a line without its newline
 unfoldable pub response : List ℕ → List ℕ → List ℕ

@@ -20,7 +20,7 @@ use Rattle.answer.specs.Answer.{tableLimit, result}
 use Rattle.answer.specs.Meaning.{Asked}
 use Rattle.console.specs.QuestionLine.{lineLimit, askedIn}
 use Rattle.record.specs.Contract.{recordWithin}
-use Rattle.console.specs.Console.{outcomeFor, response, logged}
+use Rattle.console.specs.Console.{outcomeFor, minuteFor, ageFor, response, logged}
 use Rattle.console.specs.declared.respond.Answered.{Answered}
 use Rattle.console.specs.declared.respond.Response.{Response}
 use Rattle.console.specs.declared.«question_line».Magnitude.{Magnitude}
@@ -138,7 +138,8 @@ leastRoom = 2048
 -- a line was answered: the outcome, and the minute and the age that the line asks with
 pub record Answers (table line old new : List ℕ) (r : Answered) : Type 0 where
   pub outcome : result (r .answer) new ≡ outcomeFor table (askedIn line) old
-  pub asked : (a : Asked) → askedIn line ≡ some a → (r .minute ≡ a .minute) × (r .last ≡ a .age)
+  pub minute : r .minute ≡ minuteFor (askedIn line)
+  pub last : r .last ≡ ageFor (askedIn line)
 
 -- the text, which is never longer than the least room, stands at the buffer's beginning and later bytes stay, and the record in its own bytes; or the buffer is too small and all stays
 abbrev pub Writes : (text recorded old new oldRecord newRecord : List ℕ) → Response → Type 0

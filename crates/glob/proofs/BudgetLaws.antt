@@ -3,7 +3,7 @@ use mathlib.Core.Path.{_≡_}
 use Prim.Native.Nat.{ℕ, _+_, _*_, _-_, _≤_, _<_}
 use native.Mathlib.Nat.{le-mul-of-pos-right}
 use native.Mathlib.Omega.{arith}
-use Rattle.glob.specs.Contract.{worth, Usable, OneLess, Covers}
+use Rattle.glob.specs.Contract.{worth, Usable, OneLess, Covers, IsProduct}
 use Rattle.glob.specs.declared.matcher.Budget.{Budget}
 
 -- ---- one test
@@ -33,18 +33,18 @@ spend-row row b g u n h f =
     record { usable = g; spent = rw k (rows-next (b .rows) (b .rows - 2) row (b .used) (omega arith) g (omega arith)) }
 
 -- ---- the tests of all bytes
--- at the beginning it is the product of the two lengths
-pub budget-is : (row n : ℕ) → worth row record { rows = n; used = 0 } ≡ row * n
+-- so many rows, of which nothing is used, are the product of the two lengths
+pub budget-is : (row n : ℕ) → IsProduct row n record { rows = n; used = 0 }
 unfolding worth
-budget-is row n = omega arith
+budget-is row n = record { usable = omega arith; exact = omega arith }
 
-pub covers-all : (row n : ℕ) → Covers row (n - 0) record { rows = n; used = 0 }
-covers-all row n =
+pub covers-all : {row n : ℕ} {b : Budget} → IsProduct row n b → Covers row (n - 0) n b
+covers-all {row} {n} w =
     let k : n - 0 ≡ n = omega arith in
-    record { usable = omega arith; enough = rw k (omega (arith, budget-is row n)) }
+    record { usable = w .usable; enough = rw k (omega (arith, w .exact)); most = omega (arith, w .exact) }
 
-pub covers-row : (row n : ℕ) (b : Budget) → Covers row n b → 0 < n → row ≤ worth row b
-covers-row row n b c h = go (n - 1) (omega arith)
+pub covers-row : (row n all : ℕ) (b : Budget) → Covers row n all b → 0 < n → row ≤ worth row b
+covers-row row n all b c h = go (n - 1) (omega arith)
   where
     go : (m : ℕ) → n ≡ m + 1 → row ≤ worth row b
     go m k =
@@ -52,14 +52,14 @@ covers-row row n b c h = go (n - 1) (omega arith)
         omega (arith, d)
 
 -- a row less for one byte less
-pub covers-less : (row n m : ℕ) (b l : Budget) → n ≡ m + 1 → Usable row l → Covers row n b → worth row b ≤ worth row l + row → Covers row m l
-covers-less row n m b l k u c h =
-    let d : (m + 1) * row ≤ worth row b = rw k at (c .enough) in
-    record { usable = u; enough = omega (arith, d) }
+pub covers-less : (row n m all d : ℕ) (b l : Budget) → n ≡ m + 1 → Usable row l → Covers row n all b → worth row b ≡ worth row l + d → d ≤ row → Covers row m all l
+covers-less row n m all d b l k u c h g =
+    let e : (m + 1) * row ≤ worth row b = rw k at (c .enough) in
+    record { usable = u; enough = omega (arith, e); most = omega (arith, c .most) }
 
 -- a test less for each of so many bytes less
-pub covers-on : (row n m d : ℕ) (b l : Budget) → n ≡ m + d → 0 < row → Usable row l → Covers row n b → worth row l + d ≡ worth row b → Covers row m l
-covers-on row n m d b l k g u c h =
+pub covers-on : (row n m all d : ℕ) (b l : Budget) → n ≡ m + d → 0 < row → Usable row l → Covers row n all b → worth row b ≡ worth row l + d → Covers row m all l
+covers-on row n m all d b l k g u c h =
     let e : (m + d) * row ≤ worth row b = rw k at (c .enough) in
     let f : d ≤ d * row = le-mul-of-pos-right d g in
-    record { usable = u; enough = omega (arith, e, f) }
+    record { usable = u; enough = omega (arith, e, f); most = omega (arith, c .most) }

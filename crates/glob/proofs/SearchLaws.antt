@@ -111,9 +111,9 @@ try-begins p i s j b h g u =
 
 module _ {p : List ℕ} {i : ℕ} {s : List ℕ} {j : ℕ} {b : Budget} {at to : ℕ} {left : Budget} (w : Trying p i s j b at to left) where
   -- the budget is not spent
-  pub try-left : Covers (length p) (length s - j) b → at < length p → to < length s → worth (length p) left ≡ 0 → ⊥
+  pub try-left : Covers (length p) (length s - j) (length s) b → at < length p → to < length s → worth (length p) left ≡ 0 → ⊥
   try-left c h g z =
-      let r : length p ≤ worth (length p) b = covers-row (length p) (length s - j) b c (omega (arith, w .begun)) in
+      let r : length p ≤ worth (length p) b = covers-row (length p) (length s - j) (length s) b c (omega (arith, w .begun)) in
       omega (arith, r, w .spent, w .pace, w .begun)
 
   pub try-whole : length p ≤ at → length s ≤ to → true ≡ matches (drop i p) (drop j s)
@@ -272,8 +272,8 @@ module _ {p : List ℕ} {i : ℕ} {s : List ℕ} {j : ℕ} where
         let h : length p ≤ k = omega arith in
         sym (rw (drop-of-length-le p h) (behind-end (drop m s))) ∙ star-sought
 
-    pub covers-star : Covers (length p) (length s - j) b → Covers (length p) (length s - m) l
-    covers-star c = covers-on (length p) (length s - j) (length s - m) (m - j) b l (omega (arith, w .low, w .most)) (omega (arith, w .ahead, w .high)) (w .usable) c (omega (arith, w .uses, w .tests))
+    pub covers-star : Covers (length p) (length s - j) (length s) b → Covers (length p) (length s - m) (length s) l
+    covers-star c = covers-on (length p) (length s - j) (length s - m) (length s) (m - j) b l (omega (arith, w .low, w .most)) (omega (arith, w .ahead, w .high)) (w .usable) c (omega (arith, w .uses, w .tests))
 
   module _ {b l : Budget} (w : Fails p i s j b l) where
     behind-next : matchesBehind (drop i p) (drop (j + 1) s) ≡ matchesBehind (drop i p) (drop j s)
@@ -289,5 +289,5 @@ module _ {p : List ℕ} {i : ℕ} {s : List ℕ} {j : ℕ} where
     pub sought-fails : i ≡ 0 → false ≡ sought i (drop i p) (drop j s)
     sought-fails e = w .same ∙ sym (sought-here i (drop i p) (drop j s) e)
 
-    pub covers-next : Covers (length p) (length s - j) b → Covers (length p) (length s - (j + 1)) l
-    covers-next c = covers-less (length p) (length s - j) (length s - (j + 1)) b l (omega (arith, w .more)) (w .usable) c (omega (arith, w .uses, w .few))
+    pub covers-next : Covers (length p) (length s - j) (length s) b → Covers (length p) (length s - (j + 1)) (length s) l
+    covers-next c = covers-less (length p) (length s - j) (length s - (j + 1)) (length s) (testsAt p i s j) b l (omega (arith, w .more)) (w .usable) c (w .uses) (w .few)

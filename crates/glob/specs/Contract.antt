@@ -89,10 +89,16 @@ abbrev pub Spends : ℕ → Budget → Spent → Type 0
 Spends row b (Left l) = OneLess row b l
 Spends row b Nothing = worth row b ≡ 0
 
--- the budget is good for a row of tests at each of so many bytes
-pub record Covers (row bytes : ℕ) (b : Budget) : Type 0 where
+-- the budget is the product: a row of tests for each of so many bytes, neither less nor more
+pub record IsProduct (row bytes : ℕ) (b : Budget) : Type 0 where
+  pub usable : Usable row b
+  pub exact : worth row b ≡ row * bytes
+
+-- the budget is good for a row of tests at each of so many bytes, and not for more than a row at each of all bytes
+pub record Covers (row bytes all : ℕ) (b : Budget) : Type 0 where
   pub usable : Usable row b
   pub enough : bytes * row ≤ worth row b
+  pub most : worth row b ≤ row * all
 
 -- a star is the one token that needs no byte
 unfoldable pub isRun : Token → Bool

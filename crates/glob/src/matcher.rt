@@ -5,7 +5,7 @@ ghost use mathlib.Core.Path.{_≡_};
 ghost use Prim.Native.Nat.{_-_, _≤_, _<_};
 ghost use lib.ListN.{length, getD};
 ghost use Rattle.glob.specs.Match.{matches};
-ghost use Rattle.glob.specs.Contract.{Usable, Spends, Covers, Tests, Tries};
+ghost use Rattle.glob.specs.Contract.{Usable, Spends, Covers, IsProduct, Tests, Tries};
 
 // The tests that are left: so many rows, each as long as the pattern, less those used of the first. The product of two
 // lengths need not fit a number.
@@ -109,7 +109,7 @@ pub enum Tried {
 
 // Tries the pattern from `i` on at the name's byte `j`, up to the next star and without going back.
 fn try_at(p: &[u8], i: usize, name: &[u8], j: usize, budget: Budget) -> Tried
-    requires { ⌜ (i ≤ length (now p)) × (j ≤ length (now name)) × Covers (length (now p)) (length (now name) - j) budget ⌝ }
+    requires { ⌜ (i ≤ length (now p)) × (j ≤ length (now name)) × Covers (length (now p)) (length (now name) - j) (length (now name)) budget ⌝ }
     ensures { λ r. ⌜ Tries (now (p .entry)) i (now (name .entry)) j budget r ⌝ }
 {
     let mut at = i;
@@ -142,18 +142,17 @@ fn try_at(p: &[u8], i: usize, name: &[u8], j: usize, budget: Budget) -> Tried
     Tried::Off(left)
 }
 
-// Whether a brace-free pattern matches the whole name. What follows the last star is tried at one byte after the other; at
-// the next star the one before it is done with, and a star at the end takes whatever is left.
-pub fn matches_expansion(p: &[u8], name: &[u8]) -> bool
+// Whether the pattern matches the whole name, with a budget that is the product of their lengths. What follows the last star
+// is tried at one byte after the other; at the next star the one before it is done with, and a star at the end takes
+// whatever is left.
+fn search(p: &[u8], name: &[u8], budget: Budget) -> bool
+    requires { ⌜ IsProduct (length (now p)) (length (now name)) budget ⌝ }
     ensures { λ r. ⌜ r ≡ matches (now (p .entry)) (now (name .entry)) ⌝ }
 {
     // Behind the last star, or 0 before the first one.
     let mut star = 0;
     let mut from = 0;
-    let mut left = Budget {
-        rows: name.len(),
-        used: 0,
-    };
+    let mut left = budget;
     loop {
         match try_at(p, star, name, from, left) {
             Tried::Whole => {
@@ -182,4 +181,18 @@ pub fn matches_expansion(p: &[u8], name: &[u8]) -> bool
             }
         }
     }
+}
+
+// Whether a brace-free pattern matches the whole name: a row of tests for each byte of the name.
+pub fn matches_expansion(p: &[u8], name: &[u8]) -> bool
+    ensures { λ r. ⌜ r ≡ matches (now (p .entry)) (now (name .entry)) ⌝ }
+{
+    search(
+        p,
+        name,
+        Budget {
+            rows: name.len(),
+            used: 0,
+        },
+    )
 }

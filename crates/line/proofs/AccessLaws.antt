@@ -5,6 +5,7 @@ use mathlib.Core.List.{List, [], _∷_}
 use Prim.Native.Nat.{ℕ, zero, suc, _-_, _≤_, _<_, min}
 use native.Mathlib.Omega.{arith}
 use native.Mathlib.Decide.{decLe}
+use borrow.Author.Tests.{le-leb, lt-leb}
 use lib.Dec.{eqb}
 use lib.ListN.{length, take, drop, getD, length-drop, drop-of-length-le, List·getD-eq-default}
 use lib.Seq.{take-nil}
@@ -13,8 +14,17 @@ use Rattle.text.proofs.Laws.{next-of, take-min}
 use Rattle.line.specs.declared.kind.LineKind.the-variants.{NoField, Colon, Entry}
 use Rattle.line.specs.Joined.{begins}
 use Rattle.line.specs.Kind.{kindOfLine}
-use Rattle.line.specs.Contract.{fieldsAt, fieldsIn}
+use Rattle.line.specs.Contract.{fieldsAt, fieldsIn, fieldStart}
 use Rattle.line.proofs.JoinedLaws.{begins-some, begins-none}
+
+-- ---- where a field begins
+pub start-within : (ends : List ℕ) (i : ℕ) → i ≤ 64 → getD (0 ∷ ends) i 0 ≡ fieldStart ends i
+unfolding fieldStart
+start-within ends i h = rw (le-leb i 64 h)
+
+pub start-past : (ends : List ℕ) (i : ℕ) → 64 < i → 0 ≡ fieldStart ends i
+unfolding fieldStart
+start-past ends i h = rw (lt-leb i 64 h)
 
 -- ---- a field by its number
 at-none : (t : List ℕ) (start n i : ℕ) → getD (fieldsAt t start [] n) i [] ≡ []

@@ -1,5 +1,5 @@
 -- Lines of which every newline ends one: the line from a place on ends behind the first newline. Assumes nothing.
-use mathlib.Core.Path.{_≡_, refl, ap, _∙_}
+use mathlib.Core.Path.{_≡_, refl}
 use mathlib.Core.Bool.{false}
 use mathlib.Core.List.{List, [], _∷_}
 use Prim.Native.Nat.{ℕ, suc, _+_, _-_, _≤_, _<_}
@@ -41,7 +41,7 @@ module _ (t : List ℕ) (at end : ℕ) (g : end ≡ at + lead 10 (drop at t)) wh
       record {
         low = omega arith;
         high = omega arith;
-        some = omega arith;
+        positive = omega arith;
         few = omega arith;
         counts = rw (b, n .1);
         reads = λ number. let m : number + 0 + 1 ≡ number + 1 = omega arith in rw (c, first-ended (drop at t) k, n .0, a, m, drop-drop (suc (lead 10 (drop at t))) at t, d);

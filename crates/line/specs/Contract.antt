@@ -5,7 +5,7 @@ use mathlib.Core.Bool.{false, Bool, true, not, cond, _&&_, _||_}
 use mathlib.Core.List.{List, [], _∷_, _++_}
 use mathlib.Core.Option.{Option, none, some}
 use lib.ListN.{length, take, drop, getD, set}
-use lib.Dec.{ltb}
+use lib.Dec.{leb, ltb}
 use Rattle.text.specs.declared.slice.Found.{Found}
 use Rattle.text.specs.declared.slice.Found.the-variants.{At as FoundAt, Nothing}
 use Rattle.text.specs.Bytes.{byte, is}
@@ -39,7 +39,7 @@ pub record Reaches (c : ℕ) (t : List ℕ) (i r : ℕ) : Type 0 where
   pub low : i ≤ r
   pub high : r ≤ length t
   pub stops : r < length t → getD t r 0 ≡ c
-  pub none : (j : ℕ) → i ≤ j → j < r → getD t j 0 ≡ c → ⊥
+  pub absent : (j : ℕ) → i ≤ j → j < r → getD t j 0 ≡ c → ⊥
 
 -- the lines from a place on where one begins, the first of them with this number; from 0 and 1 on they are `linesOf`
 abbrev pub linesFrom : (ℕ → Bool) → List ℕ → ℕ → ℕ → List Line
@@ -49,7 +49,7 @@ linesFrom continues t at number = placed at number (endedLines continues false (
 pub record LineEnds (continues : ℕ → Bool) (t : List ℕ) (at e count : ℕ) : Type 0 where
   pub low : at < e
   pub high : e ≤ length t
-  pub some : 0 < count
+  pub positive : 0 < count
   pub few : at + count ≤ e
   pub counts : count ≡ newlines (take (e - at) (drop at t))
   pub reads : (number : ℕ) → linesFrom continues t at number ≡ line at e number (take (e - 1 - at) (drop at t)) ∷ linesFrom continues t e (number + count)
@@ -156,6 +156,10 @@ fieldsAt text start (e ∷ ends) (suc n) = take (e - start) (drop start text) �
 -- as many as are counted, and there is room for
 unfoldable pub fieldsIn : List ℕ → List ℕ → ℕ → List (List ℕ)
 fieldsIn text ends count = fieldsAt text 0 ends (min count mostFields)
+
+-- where the field with a number begins: at the end of the one before it; 0 where there is no room for so many
+unfoldable pub fieldStart : List ℕ → ℕ → ℕ
+fieldStart ends i = cond (leb i mostFields) (getD (0 ∷ ends) i 0) 0
 
 -- where fields end that are laid one behind the other from a place on
 unfoldable pub endsFrom : ℕ → List (List ℕ) → List ℕ

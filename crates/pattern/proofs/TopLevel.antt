@@ -1,12 +1,12 @@
 -- The alternatives of the top level, one after the other as they stand. Assumes nothing.
 use mathlib.Core.Path.{_≡_, refl, sym, ap, _∙_}
 use mathlib.Core.Bool.{false}
-use mathlib.Core.List.{List, [], _∷_, _++_, append-nil}
-use Prim.Native.Nat.{ℕ, _+_, _-_, _≤_, _<_}
+use mathlib.Core.List.{List, [], _++_, append-nil}
+use Prim.Native.Nat.{ℕ, _+_, _≤_, _<_}
 use native.Mathlib.Omega.{arith}
 use native.Mathlib.Decide.{decLe}
 use borrow.Author.Tests.{ne-eqb}
-use lib.ListN.{length, take, drop, getD, drop-of-length-le, length-drop}
+use lib.ListN.{length, drop, getD, drop-of-length-le, length-drop}
 use Rattle.text.specs.Contract.{Wrote}
 use Rattle.text.specs.declared.buffer.Filled.{Filled}
 use Rattle.text.specs.declared.buffer.Filled.the-variants.{Full}
@@ -14,34 +14,16 @@ use Rattle.text.proofs.Laws.{next}
 use Rattle.text.proofs.Buffers.{up-full}
 use Rattle.fault.specs.Fault.{value}
 use Rattle.pattern.specs.declared.Syntax.{Syntax}
-use Rattle.pattern.specs.declared.run.RunRead.the-variants.{Ends, Malformed as RunMalformed}
-use Rattle.pattern.specs.declared.braces.ListRead.the-variants.{Done}
 use Rattle.pattern.specs.declared.alternatives.Alternative.{Alternative}
 use Rattle.pattern.specs.declared.alternatives.Alternative.the-variants.{Flat, Braced, Malformed as AlternativeMalformed}
-use Rattle.pattern.specs.Tree.{Tree, empty, or, number, expansions, TreeRead, parsed, malformed, bind, afterOne, patternOf, listOf, expanded}
+use Rattle.pattern.specs.Tree.{Tree, or, number, expansions, TreeRead, parsed, malformed, bind, afterOne, patternOf, listOf, expanded}
 use Rattle.pattern.specs.Whole.{expansionsOf}
-use Rattle.pattern.specs.Contract.{RunAt, Tells, chosen, HasNumber, expansionsIn, EndsBefore, endTold, Few, AlternativeAt}
+use Rattle.pattern.specs.Contract.{chosen, HasNumber, expansionsIn, EndsBefore, endTold, Few, AlternativeAt}
 use Rattle.pattern.proofs.TreeLaws.{list-first}
-use Rattle.pattern.proofs.Expanding.{told, wrapped, pieces-are, pieces-none}
 use Rattle.pattern.proofs.Expansions.{counts, nth-is}
 use Rattle.pattern.proofs.Alone.{never-closes}
 use Rattle.pattern.proofs.Lengths.{alternative-room}
-use Rattle.pattern.proofs.WholeLaws.{fits-few, good, expansions-are, expansions-wrapped}
-
--- ---- what the answer of `alternative_at` tells
-module _ (syntax : Syntax) (p : List ℕ) (at : ℕ) where
-  pub flat-told : (e : ℕ) → RunAt syntax false p at (Ends e) → AlternativeAt p at (Flat e) (patternOf syntax false (drop at p))
-  unfolding expansionsIn
-  flat-told e w =
-      let q : patternOf syntax false (drop at p) ≡ parsed (wrapped (w .pieces) empty) (drop e p) = w .reads ∙ pieces-are (w .pieces) empty (drop e p) in
-      let z : expansionsIn (patternOf syntax false (drop at p)) ≡ take (e - at) (drop at p) ∷ [] = rw q (expansions-wrapped (w .pieces) ∙ rw (w .spans .written)) in
-      (record { tree = wrapped (w .pieces) empty; is = q; low = w .spans .low; high = w .spans .high }, z)
-
-  pub braced-told : (e d n : ℕ) → Tells p at (Done e d n) (patternOf syntax false (drop at p)) → AlternativeAt p at (Braced e n) (patternOf syntax false (drop at p))
-  braced-told e d n w = let t = told _ _ _ _ _ _ w in (record { tree = t .tree; is = t .is; low = w .within .low; high = w .within .high }, t .count)
-
-  pub run-malformed : RunAt syntax false p at RunMalformed → patternOf syntax false (drop at p) ≡ malformed
-  run-malformed w = w .reads ∙ pieces-none (w .pieces)
+use Rattle.pattern.proofs.WholeLaws.{fits-few, good, expansions-are}
 
 -- ---- one expansion of an alternative
 pub chosen-is : (o : TreeRead) (n k : ℕ) → HasNumber o n → k < n → getD (expansionsIn o) k [] ≡ chosen k o

@@ -3,13 +3,12 @@ use mathlib.Core.Path.{_≡_, refl, sym, ap, _∙_}
 use mathlib.Core.Bool.{Bool, true, false, _&&_}
 use mathlib.Core.List.{List, [], _∷_}
 use mathlib.Core.Option.{Option, none, some}
-use Prim.Native.Nat.{ℕ, _+_, _-_, _≤_, _<_, min}
+use Prim.Native.Nat.{ℕ, _+_, _≤_, _<_, min}
 use native.Mathlib.Omega.{arith}
 use native.Mathlib.Decide.{decLe, decLt}
 use borrow.Author.Tests.{le-leb, lt-leb, leb-true}
 use lib.Dec.{leb}
-use lib.ListN.{length, drop, getD, drop-of-length-le, List·getD-eq-default}
-use lib.Seq.{take-all}
+use lib.ListN.{length, drop, getD, List·getD-eq-default}
 use Rattle.text.specs.Lists.{any}
 use Rattle.text.specs.Limits.{fieldLimit}
 use Rattle.text.specs.declared.buffer.Filled.{Filled}
@@ -26,13 +25,10 @@ use Rattle.pattern.specs.declared.Syntax.{Syntax}
 use Rattle.pattern.specs.declared.Pattern.{Pattern}
 use Rattle.pattern.specs.declared.Shape.the-variants.{Malformed, Read}
 use Rattle.pattern.specs.declared.Expanded.the-variants.{Fault, Number}
-use Rattle.pattern.specs.declared.run.RunRead.the-variants.{Ends}
-use Rattle.pattern.specs.Tree.{Tree, empty, commasPart, depth, number, expansions, fits, TreeRead, parsed, malformed, patternOf, listOf, treeOf, expanded}
+use Rattle.pattern.specs.Tree.{Tree, commasPart, depth, number, expansions, fits, TreeRead, parsed, malformed, patternOf, listOf, treeOf, expanded}
 use Rattle.pattern.specs.Whole.{orNone, expansionsOf, fieldExpansions, matchesPattern}
-use Rattle.pattern.specs.Contract.{sizeOf, shapeIn, shapeOf, expandedIn, expansionAt, flat, RunAt, chosen, HasNumber, HasNth}
-use Rattle.pattern.proofs.TreeLaws.{list-first}
+use Rattle.pattern.specs.Contract.{sizeOf, shapeIn, shapeOf, expandedIn, expansionAt, chosen, HasNumber, HasNth}
 use Rattle.pattern.proofs.Readings.{number-some}
-use Rattle.pattern.proofs.Expanding.{wrapped, pieces-are, number-wrapped}
 use Rattle.pattern.proofs.Expansions.{counts, nth-is}
 use Rattle.pattern.proofs.Alone.{alone}
 use Rattle.pattern.proofs.Lengths.{list-room}
@@ -222,29 +218,7 @@ kth-alone syntax p n k c e h =
     let w = kth syntax p n k e h in
     record { numbers = rw (← (alone syntax c p), e) (w .numbers); few = omega (arith, w .few); is = rw (← (alone syntax c p)) (w .is) }
 
--- ---- a pattern with no brace and no comma that parts is its own only expansion
-depth-wrapped : (ws : List (List ℕ)) → depth (wrapped ws empty) ≡ 0
-unfolding depth
-depth-wrapped [] = refl
-depth-wrapped (w ∷ ws) = depth-wrapped ws
-
-pub expansions-wrapped : (ws : List (List ℕ)) → expansions (wrapped ws empty) ≡ flat ws ∷ []
-unfolding expansions flat
-expansions-wrapped [] = refl
-expansions-wrapped (w ∷ ws) = rw (expansions-wrapped ws)
-
-fits-wrapped : (ws : List (List ℕ)) → fits (wrapped ws empty) ≡ true
-unfolding fits number
-fits-wrapped ws = rw (depth-wrapped ws, number-wrapped ws empty)
-
-pub flat-is : (syntax : Syntax) (p : List ℕ) (e : ℕ) → RunAt syntax false p 0 (Ends e) → length p ≤ e → expansionsOf syntax p ≡ p ∷ []
-unfolding treeOf
-flat-is syntax p e w g =
-    let f : patternOf syntax false p ≡ parsed (wrapped (w .pieces) empty) [] = w .reads ∙ rw (drop-of-length-le p g) (pieces-are (w .pieces) empty []) in
-    let q : treeOf syntax p ≡ some (wrapped (w .pieces) empty) = rw (list-first syntax false p, f) in
-    let z : flat (w .pieces) ≡ p = w .spans .written ∙ take-all (e - 0) p (omega arith) in
-    expansions-are syntax p _ (expanded-good syntax p (wrapped (w .pieces) empty) q (fits-wrapped (w .pieces))) ∙ expansions-wrapped (w .pieces) ∙ rw z
-
+-- ---- a pattern that is its own only expansion
 module _ (syntax : Syntax) (p : List ℕ) (e : expansionsOf syntax p ≡ p ∷ []) where
   pub flat-expanded : expanded syntax p ≡ value (p ∷ [])
   unfolding expansionsOf

@@ -1,10 +1,10 @@
 -- What only contracts and proofs cite: the answers of the functions hold places and counts, those of the definitions lists and trees.
 use Prim.Native.Nat.{ℕ, _+_, _-_, _/_, _%_, _≤_, _<_, min}
 use mathlib.Core.Path.{_≡_}
-use mathlib.Core.Bool.{Bool, true, cond}
+use mathlib.Core.Bool.{Bool, true, false, cond}
 use mathlib.Core.List.{List, [], _∷_, _++_}
 use mathlib.Core.Option.{Option, none, some}
-use lib.Dec.{ltb}
+use lib.Dec.{leb, ltb}
 use lib.ListN.{length, drop, take, getD}
 use Rattle.text.specs.Parts.{partAt}
 use Rattle.fault.specs.Fault.{Reading, fault, value}
@@ -48,6 +48,21 @@ expandedIn (Number n) = value n
 -- the k-th brace-free expansion, counted from 0; no bytes where there is none
 unfoldable pub expansionAt : Syntax → List ℕ → ℕ → List ℕ
 expansionAt syntax p k = getD (expansionsOf syntax p) k []
+
+-- a tree of pieces alone
+unfoldable pub onlyPieces : Tree → Bool
+onlyPieces empty = true
+onlyPieces (piece b t) = onlyPieces t
+onlyPieces (list a t) = false
+onlyPieces (or a b) = false
+
+abbrev pub flatTree : Option Tree → Bool
+flatTree none = false
+flatTree (some t) = onlyPieces t
+
+-- whether a pattern has no brace and no comma that parts; a malformed one is not flat
+unfoldable pub isFlat : Syntax → List ℕ → Bool
+isFlat syntax p = flatTree (treeOf syntax p)
 
 -- ---- one piece
 
@@ -138,7 +153,7 @@ pub record ReadBounds (p : List ℕ) (at next d n : ℕ) : Type 0 where
   pub low : at ≤ next
   pub high : next ≤ length p
   pub deep : at + d ≤ next
-  pub some : 0 < n
+  pub positive : 0 < n
   pub small : n ≤ 65
 
 abbrev pub BoundsIn : List ℕ → ℕ → ListRead → Type 0
@@ -192,6 +207,15 @@ abbrev pub endTold : Alternative → ℕ
 endTold (Flat e) = e
 endTold (Braced e n) = e
 endTold AlternativeMalformed = 0
+
+-- the alternative that was read of a pattern of so many bytes: where it ends, and its number of expansions up to 65 where it has braces
+abbrev pub alternativeParsed : ℕ → TreeRead → Alternative
+alternativeParsed size (parsed t r) = cond (onlyPieces t) (Flat (size - length r)) (Braced (size - length r) (min (number t) 65))
+alternativeParsed size malformed = AlternativeMalformed
+
+-- the alternative that begins at a place of a pattern or at its end; past the end there is none
+unfoldable pub alternativeFrom : Syntax → List ℕ → ℕ → Alternative
+alternativeFrom syntax p at = cond (leb at (length p)) (alternativeParsed (length p) (patternOf syntax false (drop at p))) AlternativeMalformed
 
 -- a reading whose tree has at most 64 expansions
 abbrev pub Few : TreeRead → Type 0

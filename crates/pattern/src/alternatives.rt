@@ -14,7 +14,7 @@ ghost use Prim.Native.Nat.{_≤_, _<_};
 ghost use lib.ListN.{length, drop, getD};
 ghost use Rattle.text.specs.Contract.{Wrote};
 ghost use Rattle.pattern.specs.Tree.{patternOf};
-ghost use Rattle.pattern.specs.Contract.{HasNumber, expansionsIn, endTold, AlternativeAt};
+ghost use Rattle.pattern.specs.Contract.{HasNumber, expansionsIn, endTold, alternativeFrom};
 
 // What stands where an alternative begins.
 pub enum Alternative {
@@ -38,9 +38,9 @@ impl Alternative {
     }
 }
 
-// The alternative that begins at `at`, a place of the pattern or its end.
+// The alternative that begins at `at`, a place of the pattern or its end; past the end there is none.
 pub fn alternative_at(syntax: Syntax, p: &[u8], at: usize) -> Alternative
-    ensures { λ r. ⌜ (at ≤ length (now (p .entry)) → AlternativeAt (now (p .entry)) at r (patternOf syntax false (drop at (now (p .entry))))) ⌝ }
+    ensures { λ r. ⌜ r ≡ alternativeFrom syntax (now (p .entry)) at ⌝ }
 {
     if p.len() < at {
         return Alternative::Malformed;

@@ -33,8 +33,8 @@ pub record Records (o : Outcome) (minute : WeekMinute) (age : LastAuthentication
   pub bytes : new ≡ bytesRecorded r old (fieldsBy o minute age)
 
 -- what is written into lent bytes: nothing, where they are not eight
-unfoldable pub recordWithin : (length : ℕ) → List ℕ → List ℕ
-recordWithin length r = cond (eqb length recordLength) r []
+unfoldable pub recordWithin : (size : ℕ) → List ℕ → List ℕ
+recordWithin size r = cond (eqb size recordLength) r []
 
 -- eight bytes were written where there was no refusal
 abbrev pub bytesNumbered : Option ℕ → ℕ

@@ -4,7 +4,6 @@ use mathlib.Core.Bool.{Bool, false, cond}
 use mathlib.Core.List.{List, []}
 use mathlib.Core.Option.{Option, none, some}
 use lib.Dec.{ltb}
-use lib.ListN.{length}
 use Rattle.question.specs.declared.WeekMinute.{WeekMinute}
 use Rattle.question.specs.declared.LastAuthentication.{LastAuthentication}
 use Rattle.answer.specs.Answer.{Outcome, toldBy, Beside, granted, atLine, atPlace, decidingLine}
@@ -29,8 +28,8 @@ abbrev pub lineLimit : ℕ
 lineLimit = 65536
 
 -- a line that 16 bits do not hold has an answer of its own; else the writer's
-unfoldable pub recordedOf : (length : ℕ) → Fields → Recorded
-recordedOf length f = cond (ltb (f .line) lineLimit) (Writer (writtenOf length f)) LongLine
+unfoldable pub recordedOf : (size : ℕ) → Fields → Recorded
+recordedOf size f = cond (ltb (f .line) lineLimit) (Writer (writtenOf size f)) LongLine
 
 -- the lent bytes afterwards
 unfoldable pub bytesRecorded : Recorded → List ℕ → Fields → List ℕ

@@ -3,7 +3,6 @@ use Prim.Native.Nat.{ℕ}
 use mathlib.Core.Bool.{cond}
 use mathlib.Core.List.{List}
 use lib.Dec.{eqb, ltb}
-use lib.ListN.{length}
 use Rattle.question.specs.Question.{weekMinutes}
 use Rattle.record.specs.declared.Fields.{Fields}
 use Rattle.record.specs.declared.Written.{Written}
@@ -11,10 +10,10 @@ use Rattle.record.specs.declared.Written.the-variants.{Done, UnknownNumb
 use Rattle.record.specs.Layout.{recordLength, packed}
 use Rattle.record.specs.Stored.{known, storedOf}
 
--- "4 not eight bytes, first of all", then "2 answer number, 3 minute"; the length is that of the lent bytes
-unfoldable pub writtenOf : (length : ℕ) → Fields → Written
-writtenOf length f =
-    cond (eqb length recordLength)
+-- "4 not eight bytes, first of all", then "2 answer number, 3 minute"; the size is that of the lent bytes
+unfoldable pub writtenOf : (size : ℕ) → Fields → Written
+writtenOf size f =
+    cond (eqb size recordLength)
     (cond (known (f .number))
     (cond (ltb (f .minute .0) weekMinutes) Done
     BadMinute)

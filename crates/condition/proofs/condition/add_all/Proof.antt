@@ -8,7 +8,8 @@ use Rattle.fault.specs.Fault.{readAll}
 use Rattle.pattern.specs.Tree.{listOf}
 use Rattle.pattern.specs.Whole.{expansionsOf}
 use Rattle.pattern.specs.Contract.{expansionsIn, Few}
-use Rattle.pattern.proofs.TopLevel.{First, first-told, whole-few, whole-all}
+use Rattle.pattern.proofs.TopLevel.{first-told, whole-few, whole-all}
+use Rattle.pattern.proofs.FlatLaws.{alternative-told}
 use Rattle.condition.specs.Contract.{sortIn, judgeBy, addedBy}
 use Rattle.condition.specs.Condition.{alternativeRead}
 use Rattle.condition.specs.declared.condition.Added.the-variants.{Fault}
@@ -37,7 +38,7 @@ alternative-at-requires c κs = search needs
 
 -- src/condition.rt:224:15
 add-found-requires : tie.Need-add-found-requires Inv-loop μ-loop
-add-found-requires c κs = let l = c .before .loop in (c .before .before .before .before .before .before .pre .0, l .inv .0, l .inv .1, c .alternative-at .ensures (l .inv .0))
+add-found-requires c κs = let l = c .before .loop in (c .before .before .before .before .before .before .pre .0, l .inv .0, l .inv .1, alternative-told _ _ _ (l .inv .0) (c .alternative-at .ensures))
 
 -- src/condition.rt:238:26
 enum-known-cause : tie.Need-enum-known-cause Inv-loop μ-loop
@@ -45,7 +46,7 @@ enum-known-cause c = search needs
 
 -- src/condition.rt:239:17
 returns : tie.Need-returns Inv-loop μ-loop
-returns c = first _ _ _ _ _ _ _ (first-told (c .before .before .before .before .before .before .before .before .before .before .args .syntax) (c .before .before .before .before .before .before .before .before .before .before .args .p .now) (c .before .before .before .before .before .loop .i) (c .before .before .before .before .before .loop .inv .1) (c .before .before .before .before .alternative-at .result) (c .before .before .before .before .alternative-at .ensures (c .before .before .before .before .before .loop .inv .0))) (Fault _) (sym (c .before .cause .given .1) ∙ c .before .before .before .add-found .ensures) ∙ c .before .before .before .before .before .loop .inv .2
+returns c = first _ _ _ _ _ _ _ (first-told (c .before .before .before .before .before .before .before .before .before .before .args .syntax) (c .before .before .before .before .before .before .before .before .before .before .args .p .now) (c .before .before .before .before .before .loop .i) (c .before .before .before .before .before .loop .inv .1) (c .before .before .before .before .alternative-at .result) (alternative-told _ _ _ (c .before .before .before .before .before .loop .inv .0) (c .before .before .before .before .alternative-at .ensures))) (Fault _) (sym (c .before .cause .given .1) ∙ c .before .before .before .add-found .ensures) ∙ c .before .before .before .before .before .loop .inv .2
 
 -- src/condition.rt:241:25
 enum-known-next : tie.Need-enum-known-next Inv-loop μ-loop
@@ -57,19 +58,19 @@ end-requires c κs = search needs
 
 -- src/condition.rt:244:21
 returns-2 : tie.Need-returns-2 Inv-loop μ-loop
-returns-2 c = let o = rw (← (c .before .end .ensures)) at (first-told (c .before .before .before .before .before .before .before .before .before .before .before .before .args .syntax) (c .before .before .before .before .before .before .before .before .before .before .before .before .args .p .now) (c .before .before .before .before .before .before .before .loop .i) (c .before .before .before .before .before .before .before .loop .inv .1) (c .before .before .before .before .before .before .alternative-at .result) (c .before .before .before .before .before .before .alternative-at .ensures (c .before .before .before .before .before .before .before .loop .inv .0))) in first-last _ _ _ _ _ _ _ o _ (sym (c .before .before .before .next .given .1) ∙ c .before .before .before .before .before .add-found .ensures) (c .if1 .taken) ∙ c .before .before .before .before .before .before .before .loop .inv .2
+returns-2 c = let o = rw (← (c .before .end .ensures)) at (first-told (c .before .before .before .before .before .before .before .before .before .before .before .before .args .syntax) (c .before .before .before .before .before .before .before .before .before .before .before .before .args .p .now) (c .before .before .before .before .before .before .before .loop .i) (c .before .before .before .before .before .before .before .loop .inv .1) (c .before .before .before .before .before .before .alternative-at .result) (alternative-told _ _ _ (c .before .before .before .before .before .before .before .loop .inv .0) (c .before .before .before .before .before .before .alternative-at .ensures))) in first-last _ _ _ _ _ _ _ o _ (sym (c .before .before .before .next .given .1) ∙ c .before .before .before .before .before .add-found .ensures) (c .if1 .taken) ∙ c .before .before .before .before .before .before .before .loop .inv .2
 
 -- src/condition.rt:247:21
 add-i : tie.Need-add-i Inv-loop μ-loop
-add-i c = let o = rw (← (c .before .end .ensures)) at (first-told (c .before .before .before .before .before .before .before .before .before .before .before .before .args .syntax) (c .before .before .before .before .before .before .before .before .before .before .before .before .args .p .now) (c .before .before .before .before .before .before .before .loop .i) (c .before .before .before .before .before .before .before .loop .inv .1) (c .before .before .before .before .before .before .alternative-at .result) (c .before .before .before .before .before .before .alternative-at .ensures (c .before .before .before .before .before .before .before .loop .inv .0))) in omega (arith, o .low, o .high)
+add-i c = let o = rw (← (c .before .end .ensures)) at (first-told (c .before .before .before .before .before .before .before .before .before .before .before .before .args .syntax) (c .before .before .before .before .before .before .before .before .before .before .before .before .args .p .now) (c .before .before .before .before .before .before .before .loop .i) (c .before .before .before .before .before .before .before .loop .inv .1) (c .before .before .before .before .before .before .alternative-at .result) (alternative-told _ _ _ (c .before .before .before .before .before .before .before .loop .inv .0) (c .before .before .before .before .before .before .alternative-at .ensures))) in omega (arith, o .low, o .high)
 
 -- src/condition.rt:222:5
 loop-less : tie.Need-loop-less Inv-loop μ-loop
-loop-less c = let o = rw (← (c .before .end .ensures)) at (first-told (c .before .before .before .before .before .before .before .before .before .before .before .before .args .syntax) (c .before .before .before .before .before .before .before .before .before .before .before .before .args .p .now) (c .before .before .before .before .before .before .before .loop .i) (c .before .before .before .before .before .before .before .loop .inv .1) (c .before .before .before .before .before .before .alternative-at .result) (c .before .before .before .before .before .before .alternative-at .ensures (c .before .before .before .before .before .before .before .loop .inv .0))) in omega (arith, o .low, o .high)
+loop-less c = let o = rw (← (c .before .end .ensures)) at (first-told (c .before .before .before .before .before .before .before .before .before .before .before .before .args .syntax) (c .before .before .before .before .before .before .before .before .before .before .before .before .args .p .now) (c .before .before .before .before .before .before .before .loop .i) (c .before .before .before .before .before .before .before .loop .inv .1) (c .before .before .before .before .before .before .alternative-at .result) (alternative-told _ _ _ (c .before .before .before .before .before .before .before .loop .inv .0) (c .before .before .before .before .before .before .alternative-at .ensures))) in omega (arith, o .low, o .high)
 
 -- src/condition.rt:222:5
 loop-again : tie.Need-loop-again Inv-loop μ-loop
-loop-again c = let o = rw (← (c .before .end .ensures)) at (first-told (c .before .before .before .before .before .before .before .before .before .before .before .before .args .syntax) (c .before .before .before .before .before .before .before .before .before .before .before .before .args .p .now) (c .before .before .before .before .before .before .before .loop .i) (c .before .before .before .before .before .before .before .loop .inv .1) (c .before .before .before .before .before .before .alternative-at .result) (c .before .before .before .before .before .before .alternative-at .ensures (c .before .before .before .before .before .before .before .loop .inv .0))) in (omega (arith, o .high), o .more (c .if1 .left) .1, first-more _ _ _ _ _ _ _ o _ (sym (c .before .before .before .next .given .1) ∙ c .before .before .before .before .before .add-found .ensures) (c .if1 .left) ∙ c .before .before .before .before .before .before .before .loop .inv .2)
+loop-again c = let o = rw (← (c .before .end .ensures)) at (first-told (c .before .before .before .before .before .before .before .before .before .before .before .before .args .syntax) (c .before .before .before .before .before .before .before .before .before .before .before .before .args .p .now) (c .before .before .before .before .before .before .before .loop .i) (c .before .before .before .before .before .before .before .loop .inv .1) (c .before .before .before .before .before .before .alternative-at .result) (alternative-told _ _ _ (c .before .before .before .before .before .before .before .loop .inv .0) (c .before .before .before .before .before .before .alternative-at .ensures))) in (omega (arith, o .high), o .more (c .if1 .left) .1, first-more _ _ _ _ _ _ _ o _ (sym (c .before .before .before .next .given .1) ∙ c .before .before .before .before .before .add-found .ensures) (c .if1 .left) ∙ c .before .before .before .before .before .before .before .loop .inv .2)
 
 pub add-all-spec : {M : Type 1} → statement M
 add-all-spec =

@@ -1,6 +1,7 @@
-use mathlib.Core.Path.{_∙_}
+use mathlib.Core.Path.{sym, _∙_}
 use Rattle.pattern.proofs.WholeLaws.{told-fault, told-number}
 use Rattle.pattern.proofs.TopLevel.{expanded-again}
+use Rattle.pattern.proofs.FlatLaws.{flat-alone}
 use Rattle.condition.proofs.ReadLaws.{pattern-fault, pattern-read, pattern-flat}
 use borrow.Author.Needs.{needs}
 use Rattle.condition.proofs.condition.add_alternatives.Statement.{statement}
@@ -16,7 +17,7 @@ add-one-requires : tie.Need-add-one-requires
 add-one-requires c κs = search needs
 
 returns : tie.Need-returns
-returns c = c .add-one .ensures ∙ pattern-flat _ _ _ _ _ _ (c .before .before .before .kind-for .ensures) (c .before .before .is-flat .ensures (c .before .if1 .taken))
+returns c = c .add-one .ensures ∙ pattern-flat _ _ _ _ _ _ (c .before .before .before .kind-for .ensures) (flat-alone _ _ (sym (c .before .before .is-flat .ensures) ∙ c .before .if1 .taken))
 
 read-expansions-requires : tie.Need-read-expansions-requires
 read-expansions-requires c κs = search needs

@@ -1,4 +1,6 @@
+use mathlib.Core.Path.{sym, _∙_}
 use Rattle.pattern.proofs.WholeLaws.{told-fault, told-number}
+use Rattle.pattern.proofs.FlatLaws.{flat-alone}
 use Rattle.entry.proofs.PairLaws.{command-fault, command-tested, command-unjudged, command-flat, command-flat-unjudged}
 use borrow.Author.Needs.{needs}
 use Rattle.entry.proofs.pair.read_command.Statement.{statement}
@@ -14,10 +16,10 @@ of-test-requires : tie.Need-of-test-requires
 of-test-requires c κs = search needs
 
 returns : tie.Need-returns
-returns c = command-flat _ _ _ (c .before .before .before .before .is-flat .ensures (c .before .before .before .if1 .taken)) (c .before .before .if2 .taken) (c .before .matches-expansion .ensures) (c .of-test .ensures)
+returns c = command-flat _ _ _ (flat-alone _ _ (sym (c .before .before .before .before .is-flat .ensures) ∙ c .before .before .before .if1 .taken)) (c .before .before .if2 .taken) (c .before .matches-expansion .ensures) (c .of-test .ensures)
 
 returns-2 : tie.Need-returns-2
-returns-2 c = command-flat-unjudged _ _ _ (c .before .before .is-flat .ensures (c .before .if1 .taken)) (c .if2 .left)
+returns-2 c = command-flat-unjudged _ _ _ (flat-alone _ _ (sym (c .before .before .is-flat .ensures) ∙ c .before .if1 .taken)) (c .if2 .left)
 
 read-expansions-requires : tie.Need-read-expansions-requires
 read-expansions-requires c κs = search needs

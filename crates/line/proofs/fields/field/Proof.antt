@@ -1,5 +1,6 @@
-use Rattle.line.proofs.AccessLaws.{field-past, field-here}
+use mathlib.Core.Path.{sym, _∙_}
 use native.Mathlib.Omega.{arith}
+use Rattle.line.proofs.AccessLaws.{field-past, field-here, start-within}
 use borrow.Author.Needs.{needs}
 use Rattle.line.proofs.fields.field.Statement.{statement}
 use Rattle.line.proofs.fields.field.Tie as tie
@@ -48,7 +49,7 @@ part-result-end-2 : tie.Need-part-result-end-2
 part-result-end-2 c = search needs
 
 returns-2 : tie.Need-returns-2
-returns-2 c = field-here _ _ _ _ _ _ (rw (c .before .before .before .before .before .before .at-most .ensures .0) at (c .before .before .before .before .before .if1 .left)) (c .before .before .before .at-most2 .ensures .0) (rw (c .before .before .start-of .ensures (omega arith)) at (c .before .at-most3 .ensures .0))
+returns-2 c = field-here _ _ _ _ _ _ (rw (c .before .before .before .before .before .before .at-most .ensures .0) at (c .before .before .before .before .before .if1 .left)) (c .before .before .before .at-most2 .ensures .0) (rw (c .before .before .start-of .ensures ∙ sym (start-within _ _ (omega arith))) at (c .before .at-most3 .ensures .0))
 
 pub field-spec : {M : Type 1} → statement M
 field-spec =

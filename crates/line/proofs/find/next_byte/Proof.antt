@@ -21,7 +21,7 @@ byte-from-requires c κs = search needs
 
 -- src/find.rt:7:1
 returns-2 : tie.Need-returns-2
-returns-2 c = let e = c .byte-from .ensures in record { low = e .1; high = e .2 (omega arith); stops = reach-stop _ _ _ _ (e .0); none = reach-none _ _ _ _ (e .0) }
+returns-2 c = let e = c .byte-from .ensures in record { low = e .1; high = e .2 (omega arith); stops = reach-stop _ _ _ _ (e .0); absent = reach-none _ _ _ _ (e .0) }
 
 pub next-byte-spec : {M : Type 1} → statement M
 next-byte-spec = tie.close (tie.spec shared-slice-read-if2 returns byte-from-requires returns-2)
