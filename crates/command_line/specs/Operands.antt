@@ -36,11 +36,15 @@ unfolding last
 named r missing ended n [] = Wrong missing
 named r missing ended n (w ∷ ws) = last r ended (n + 1) ws
 
+-- `-` stands for standard input, but not behind `--`
+unfoldable pub isInput : (ended : Bool) → Word → Bool
+isInput ended w = eqb w dash && not ended
+
 -- the same, where `-` is no name: standard input has the questions
 unfoldable pub namedFile : Request → (missing input : Misuse) → (ended : Bool) → ℕ → List Word → Request
-unfolding named
+unfolding named isInput
 namedFile r missing input ended n [] = Wrong missing
-namedFile r missing input ended n (w ∷ ws) = cond (eqb w dash && not ended) (Wrong input) (last r ended (n + 1) ws)
+namedFile r missing input ended n (w ∷ ws) = cond (isInput ended w) (Wrong input) (last r ended (n + 1) ws)
 
 -- a check of this file, perhaps with a question: the next word, whatever it begins with, if it is no known option
 unfoldable pub questioned : (file : ℕ) → (ended : Bool) → ℕ → List Word → Request

@@ -38,9 +38,14 @@ pair a b = record { one = a; other = b }
 unfoldable pub pairs : List Pair
 pairs = pair check su ∷ []
 
+-- these two are those two
+unfoldable pub areThose : (a b one other : Word) → Bool
+areThose a b one other = eqb a one && eqb b other
+
 -- the pair is these two, in either order
 unfoldable pub isPair : (a b : Word) → Pair → Bool
-isPair a b p = eqb a (p .one) && eqb b (p .other) || eqb a (p .other) && eqb b (p .one)
+unfolding areThose
+isPair a b p = areThose a b (p .one) (p .other) || areThose b a (p .one) (p .other)
 
 unfoldable pub standsWith : (a b : Word) → Bool
 unfolding any isPair pairs

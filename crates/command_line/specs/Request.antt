@@ -2,14 +2,14 @@
 use Prim.Native.Nat.{ℕ, _+_, _-_}
 use mathlib.Core.Bool.{Bool, true, false, cond}
 use mathlib.Core.List.{List, [], _∷_}
-use lib.Dec.{eqb}
 use lib.ListN.{length, take, drop, getD}
 use Rattle.text.specs.Lists.{has}
+use Rattle.text.specs.Slice.{headIs}
 use Rattle.text.specs.Contract.{findByte}
 use Rattle.text.specs.declared.slice.Found.{Found}
 use Rattle.text.specs.declared.slice.Found.the-variants.{At, Nothing}
 use Rattle.command_line.specs.Word.{Word, operand, endOfOptions, check, su, log, readLog, figures, help, version}
-use Rattle.command_line.specs.Options.{optionCount, wrongAmong, fileMissing, firstBad}
+use Rattle.command_line.specs.Options.{optionCount, wrongAmong, fileMissing}
 use Rattle.command_line.specs.Operands.{forTask}
 use Rattle.command_line.specs.declared.request.Checked.{Checked}
 use Rattle.command_line.specs.declared.request.Checked.the-variants.{Good, Bad}
@@ -42,24 +42,27 @@ taskOf options =
 
 -- what the options ask for, done with the words behind them, the first of which has number n; `--` may end the options
 unfoldable pub useOf : (options : List Word) → ℕ → List Word → Request
-unfolding taskOf fileNumber forTask
-useOf options n [] = forTask (taskOf options) (fileNumber log options) false n []
-useOf options n (w ∷ ws) =
-    cond (eqb w endOfOptions)
-    (forTask (taskOf options) (fileNumber log options) true (n + 1) ws)
-    (forTask (taskOf options) (fileNumber log options) false n (w ∷ ws))
+unfolding headIs taskOf fileNumber forTask
+useOf options n rest =
+    cond (headIs endOfOptions rest)
+    (forTask (taskOf options) (fileNumber log options) true (n + 1) (drop 1 rest))
+    (forTask (taskOf options) (fileNumber log options) false n rest)
 
 -- the request, if nothing is wrong
 abbrev pub ifGood : Checked → Request → Request
 ifGood Good r = r
 ifGood (Bad m) r = Wrong m
 
+-- the last of the words, an operand where there is none
+abbrev pub lastWord : List Word → Word
+lastWord ws = getD ws (length ws - 1) operand
+
 -- the request of options and of the words behind them
 unfoldable pub requestWith : (options rest : List Word) → Request
 unfolding wrongAmong fileMissing useOf
 requestWith options rest =
     ifGood (wrongAmong [] options)
-    (ifGood (fileMissing (getD options (length options - 1) operand) (length options + 1) rest) (useOf options (length options + 1) rest))
+    (ifGood (fileMissing (lastWord options) (length options + 1) rest) (useOf options (length options + 1) rest))
 
 -- the request of the words behind the program's name
 unfoldable pub requestOf : List Word → Request

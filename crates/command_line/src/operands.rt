@@ -8,7 +8,7 @@ use super::word::OTHER_OPTION;
 ghost use Prim.Native.Nat.{_<_, _≤_, _+_};
 ghost use mathlib.Core.Path.{_≡_};
 ghost use lib.ListN.{length, drop};
-ghost use Rattle.command_line.specs.Operands.{isBehind, extra, last, named, namedFile, questioned, tableChecked, forTask};
+ghost use Rattle.command_line.specs.Operands.{isBehind, extra, last, named, isInput, namedFile, questioned, tableChecked, forTask};
 
 // Whether the word is a known option behind a name.
 fn is_behind(ended: bool, word: u8) -> bool
@@ -50,6 +50,16 @@ fn if_named(request: Request, missing: Misuse, ended: bool, words: &[u8], i: usi
     Request::Wrong(missing)
 }
 
+// Whether the word stands for standard input.
+fn is_input(ended: bool, word: u8) -> bool
+    ensures { λ r. ⌜ r ≡ isInput ended word ⌝ }
+{
+    if word == DASH {
+        return !ended;
+    }
+    false
+}
+
 // The request, if it has its one name, which is not `-`.
 fn if_file(
     request: Request,
@@ -64,10 +74,8 @@ fn if_file(
     if i >= words.len() {
         return Request::Wrong(missing);
     }
-    if words[i] == DASH {
-        if !ended {
-            return Request::Wrong(input);
-        }
+    if is_input(ended, words[i]) {
+        return Request::Wrong(input);
     }
     if_last(request, ended, words, i + 1)
 }

@@ -14,7 +14,7 @@ ghost use mathlib.Core.Path.{_≡_};
 ghost use mathlib.Core.List.{[]};
 ghost use lib.ListN.{length, drop};
 ghost use Rattle.text.specs.Lists.{has};
-ghost use Rattle.command_line.specs.Options.{takesFile, belongs, isPair, standsWith, excludes, excluding, wrongOption, wrongAmong, fileMissing, noFile};
+ghost use Rattle.command_line.specs.Options.{takesFile, belongs, areThose, isPair, standsWith, excludes, excluding, wrongOption, wrongAmong, fileMissing, noFile};
 ghost use Rattle.command_line.specs.Contract.{pairAt, CountsOptions};
 
 // Whether a file stands behind the option.
@@ -56,6 +56,16 @@ const PAIRS: usize = 1;
 const ONES: [u8; 1] = [CHECK];
 const OTHERS: [u8; 1] = [SU];
 
+// Whether these two are those two.
+fn are_those(a: u8, b: u8, one: u8, other: u8) -> bool
+    ensures { λ r. ⌜ r ≡ areThose a b one other ⌝ }
+{
+    if a == one {
+        return b == other;
+    }
+    false
+}
+
 // Whether a pair is these two, in either order.
 fn is_pair(a: u8, b: u8, k: usize) -> bool
     requires { ⌜ k < 1 ⌝ }
@@ -63,15 +73,10 @@ fn is_pair(a: u8, b: u8, k: usize) -> bool
 {
     let one = ONES[k];
     let other = OTHERS[k];
-    if a == one {
-        if b == other {
-            return true;
-        }
+    if are_those(a, b, one, other) {
+        return true;
     }
-    if a == other {
-        return b == one;
-    }
-    false
+    are_those(b, a, one, other)
 }
 
 // Whether two options may stand together.

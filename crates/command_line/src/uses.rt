@@ -19,10 +19,11 @@ use super::word::VERSION;
 use super::word::word_at;
 use text::slice::Found;
 use text::slice::find_byte;
-ghost use Prim.Native.Nat.{_<_, _≤_, _+_, _-_};
+use text::slice::head_is;
+ghost use Prim.Native.Nat.{_≤_, _+_};
 ghost use mathlib.Core.Path.{_≡_};
-ghost use lib.ListN.{length, drop, getD};
-ghost use Rattle.command_line.specs.Request.{fileNumber, taskOf, useOf, requestOf};
+ghost use lib.ListN.{length, drop};
+ghost use Rattle.command_line.specs.Request.{fileNumber, taskOf, useOf, lastWord, requestOf};
 
 // The number of the argument that is the file of this option; 0 for none.
 fn file_number(word: u8, options: &[u8]) -> usize
@@ -69,17 +70,15 @@ fn use_of(options: &[u8], words: &[u8], i: usize) -> Request
 {
     let task = task_of(options);
     let log = file_number(LOG, options);
-    if i < words.len() {
-        if words[i] == END_OF_OPTIONS {
-            return for_task(task, log, true, words, i + 1);
-        }
+    if head_is(&words[i..], END_OF_OPTIONS) {
+        return for_task(task, log, true, words, i + 1);
     }
     for_task(task, log, false, words, i)
 }
 
 // The last word of the options; an operand where there is none.
 fn last_of(options: &[u8]) -> u8
-    ensures { λ r. ⌜ r ≡ getD (now (options .entry)) (length (now (options .entry)) - 1) 0 ⌝ }
+    ensures { λ r. ⌜ r ≡ lastWord (now (options .entry)) ⌝ }
 {
     let n = options.len();
     if n == 0 {
