@@ -28,17 +28,20 @@ unfoldable pub fileNumber : Word → (options : List Word) → ℕ
 unfolding findByte
 fileNumber w options = numberBehind (findByte w 0 options)
 
+-- what is done with a table or a su file
+unfoldable pub fileTask : (options : List Word) → Task
+unfolding has
+fileTask options = cond (has su options) (cond (has check options) CheckSuFile AnswerFromSuFile) (cond (has check options) CheckTable AnswerFromTable)
+
+-- the same, or what is printed of a log
+unfoldable pub logTask : (options : List Word) → Task
+unfolding has fileTask
+logTask options = cond (has readLog options) PrintRecords (cond (has figures options) PrintFigures (fileTask options))
+
 -- what the options ask for, of which no two stand together that may not
 unfoldable pub taskOf : (options : List Word) → Task
-unfolding has
-taskOf options =
-    cond (has help options) PrintHelp
-    (cond (has version options) PrintVersion
-    (cond (has readLog options) PrintRecords
-    (cond (has figures options) PrintFigures
-    (cond (has su options)
-      (cond (has check options) CheckSuFile AnswerFromSuFile)
-      (cond (has check options) CheckTable AnswerFromTable)))))
+unfolding has logTask
+taskOf options = cond (has help options) PrintHelp (cond (has version options) PrintVersion (logTask options))
 
 -- what the options ask for, done with the words behind them, the first of which has number n; `--` may end the options
 unfoldable pub useOf : (options : List Word) → ℕ → List Word → Request

@@ -23,7 +23,7 @@ use text::slice::head_is;
 ghost use Prim.Native.Nat.{_≤_, _+_};
 ghost use mathlib.Core.Path.{_≡_};
 ghost use lib.ListN.{length, drop};
-ghost use Rattle.command_line.specs.Request.{fileNumber, taskOf, useOf, lastWord, requestOf};
+ghost use Rattle.command_line.specs.Request.{fileNumber, fileTask, logTask, taskOf, useOf, lastWord, requestOf};
 
 // The number of the argument that is the file of this option; 0 for none.
 fn file_number(word: u8, options: &[u8]) -> usize
@@ -33,6 +33,36 @@ fn file_number(word: u8, options: &[u8]) -> usize
         Found::At(i) => i + 2,
         Found::Nothing => 0,
     }
+}
+
+// What the options ask for with a table or a su file.
+fn file_task(options: &[u8]) -> Task
+    ensures { λ r. ⌜ r ≡ fileTask (now (options .entry)) ⌝ }
+{
+    let checks = is_given(options, CHECK);
+    if is_given(options, SU) {
+        if checks {
+            return Task::CheckSuFile;
+        }
+        return Task::AnswerFromSuFile;
+    }
+    if checks {
+        return Task::CheckTable;
+    }
+    Task::AnswerFromTable
+}
+
+// The same, or what they ask for with a log.
+fn log_task(options: &[u8]) -> Task
+    ensures { λ r. ⌜ r ≡ logTask (now (options .entry)) ⌝ }
+{
+    if is_given(options, READ_LOG) {
+        return Task::PrintRecords;
+    }
+    if is_given(options, FIGURES) {
+        return Task::PrintFigures;
+    }
+    file_task(options)
 }
 
 // What the options ask for.
@@ -45,22 +75,7 @@ fn task_of(options: &[u8]) -> Task
     if is_given(options, VERSION) {
         return Task::PrintVersion;
     }
-    if is_given(options, READ_LOG) {
-        return Task::PrintRecords;
-    }
-    if is_given(options, FIGURES) {
-        return Task::PrintFigures;
-    }
-    if is_given(options, SU) {
-        if is_given(options, CHECK) {
-            return Task::CheckSuFile;
-        }
-        return Task::AnswerFromSuFile;
-    }
-    if is_given(options, CHECK) {
-        return Task::CheckTable;
-    }
-    Task::AnswerFromTable
+    log_task(options)
 }
 
 // What the options ask for, done with the words from the i-th on.

@@ -1,42 +1,34 @@
+use mathlib.Core.Path.{sym, _∙_}
+use Rattle.command_line.proofs.OptionLaws.{wrong-file, wrong-unknown, wrong-twice, wrong-none, wrong-with}
 use borrow.Author.Needs.{needs}
 use Rattle.command_line.proofs.options.wrong_option.Statement.{statement}
 use Rattle.command_line.proofs.options.wrong_option.Tie as tie
-use Rattle.command_line.proofs.options.wrong_option.Reads as reads
-use Rattle.command_line.proofs.options.wrong_option.Lts as lts
 use Rattle.command_line.proofs.options.excluded.Reads as excluded-reads
 use Rattle.command_line.proofs.options.is_given.Reads as is-given-reads
 
--- src/options.rt:135:9
 returns : tie.Need-returns
-returns c = ?
+returns c = wrong-file _ _ (c .if1 .taken)
 
--- src/options.rt:137:18
 add-number : tie.Need-add-number
 add-number c = search needs
 
--- src/options.rt:139:9
 returns-2 : tie.Need-returns-2
-returns-2 c = ?
+returns-2 c = wrong-unknown _ _ (c .before .if1 .left) (c .if2 .taken)
 
--- src/options.rt:141:8
 is-given-requires : tie.Need-is-given-requires
 is-given-requires c κs = search needs
 
--- src/options.rt:142:9
 returns-3 : tie.Need-returns-3
-returns-3 c = ?
+returns-3 c = wrong-twice _ _ (c .before .before .before .if1 .left) (c .before .before .if2 .left) (sym (c .before .is-given .ensures) ∙ c .if3 .taken)
 
--- src/options.rt:144:9
 excluded-requires : tie.Need-excluded-requires
 excluded-requires c κs = search needs
 
--- src/options.rt:146:9
 returns-4 : tie.Need-returns-4
-returns-4 c = ?
+returns-4 c = wrong-none _ _ (c .before .before .before .before .before .if1 .left) (c .before .before .before .before .if2 .left) (sym (c .before .before .before .is-given .ensures) ∙ c .before .before .if3 .left) (sym (c .before .excluded .ensures) ∙ c .if4 .taken)
 
--- src/options.rt:131:1
 returns-5 : tie.Need-returns-5
-returns-5 c = ?
+returns-5 c = wrong-with _ _ _ (c .before .before .before .before .before .if1 .left) (c .before .before .before .before .if2 .left) (sym (c .before .before .before .is-given .ensures) ∙ c .before .before .if3 .left) (c .before .excluded .ensures) (c .if4 .left)
 
 pub wrong-option-spec : {M : Type 1} → statement M
 wrong-option-spec =

@@ -6,7 +6,7 @@ use Rattle.command_line.proofs.uses.last_of.Statement.{statement}
 use Rattle.command_line.proofs.uses.last_of.Tie as tie
 
 returns : tie.Need-returns
-returns c = last-none _ (c .if1 .taken)
+returns c = last-none (c .before .args .options .now) (c .if1 .taken)
 
 sub-result : tie.Need-sub-result
 sub-result c = search needs

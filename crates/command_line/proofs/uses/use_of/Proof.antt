@@ -1,15 +1,12 @@
-use mathlib.Core.Path.{sym, ap, _∙_}
-use native.Mathlib.Omega.{arith}
+use mathlib.Core.Path.{sym, _∙_}
 use Rattle.text.proofs.Laws.{part-rest}
-use Rattle.text.proofs.Slices.{head-is}
-use Rattle.command_line.proofs.RequestLaws.{use-ended, use-plain}
+use Rattle.command_line.proofs.RequestLaws.{use-ended, use-plain, ended-within}
 use borrow.Author.Needs.{needs}
 use Rattle.command_line.proofs.uses.use_of.Statement.{statement}
 use Rattle.command_line.proofs.uses.use_of.Tie as tie
 use Rattle.command_line.proofs.operands.for_task.Reads as for-task-reads
 use Rattle.command_line.proofs.uses.file_number.Reads as file-number-reads
 use Rattle.command_line.proofs.uses.task_of.Reads as task-of-reads
-use Rattle.text.proofs.slice.head_is.Reads as head-is-reads
 
 task-of-requires : tie.Need-task-of-requires
 task-of-requires c κs = search needs
@@ -33,16 +30,16 @@ add-for-task : tie.Need-add-for-task
 add-for-task c = search needs
 
 for-task-requires : tie.Need-for-task-requires
-for-task-requires c κs = search needs
+for-task-requires c κs = ended-within _ _ (sym (rw part-rest at (c .before .head-is .ensures)) ∙ c .if1 .taken)
 
 returns : tie.Need-returns
-returns c = search needs
+returns c = let a = c .before .before .before .before .before .before .before .before .args in c .for-task .ensures ∙ use-ended (a .options .now) (a .words .now) (a .i) _ (c .before .before .before .before .before .task-of .ensures) (c .before .before .before .before .file-number .ensures) (sym (rw part-rest at (c .before .before .head-is .ensures)) ∙ c .before .if1 .taken)
 
 for-task-requires-2 : tie.Need-for-task-requires-2
 for-task-requires-2 c κs = search needs
 
 returns-2 : tie.Need-returns-2
-returns-2 c = search needs
+returns-2 c = let a = c .before .before .before .before .before .before .before .before .args in c .for-task2 .ensures ∙ use-plain (a .options .now) (a .words .now) (a .i) _ (c .before .before .before .before .before .task-of .ensures) (c .before .before .before .before .file-number .ensures) (sym (rw part-rest at (c .before .before .head-is .ensures)) ∙ c .before .if1 .left)
 
 pub use-of-spec : {M : Type 1} → statement M
 use-of-spec =
