@@ -45,17 +45,34 @@ pub record Agree (row : ℕ) : Type 0 where
 
 agree : (row : ℕ) → row < 10 → Agree row
 unfolding options textBytes textLengths rowWords
-agree = below Agree 10 
-    (record { text = refl; count = refl; within = lit≤ tt; word = refl }
-    , (record { text = refl; count = refl; within = lit≤ tt; word = refl }
-    , (record { text = refl; count = refl; within = lit≤ tt; word = refl }
-    , (record { text = refl; count = refl; within = lit≤ tt; word = refl }
-    , (record { text = refl; count = refl; within = lit≤ tt; word = refl }
-    , (record { text = refl; count = refl; within = lit≤ tt; word = refl }
-    , (record { text = refl; count = refl; within = lit≤ tt; word = refl }
-    , (record { text = refl; count = refl; within = lit≤ tt; word = refl }
-    , (record { text = refl; count = refl; within = lit≤ tt; word = refl }
-    , (record { text = refl; count = refl; within = lit≤ tt; word = refl }, tt))))))))))
+agree = below Agree 10 (
+  record { text = refl; count = refl; within = lit≤ tt; word = refl },
+  (
+    record { text = refl; count = refl; within = lit≤ tt; word = refl },
+    (
+      record { text = refl; count = refl; within = lit≤ tt; word = refl },
+      (
+        record { text = refl; count = refl; within = lit≤ tt; word = refl },
+        (
+          record { text = refl; count = refl; within = lit≤ tt; word = refl },
+          (
+            record { text = refl; count = refl; within = lit≤ tt; word = refl },
+            (
+              record { text = refl; count = refl; within = lit≤ tt; word = refl },
+              (
+                record { text = refl; count = refl; within = lit≤ tt; word = refl },
+                (
+                  record { text = refl; count = refl; within = lit≤ tt; word = refl },
+                  (record { text = refl; count = refl; within = lit≤ tt; word = refl }, tt),
+                ),
+              ),
+            ),
+          ),
+        ),
+      ),
+    ),
+  ),
+)
 
 -- a byte of a text, in the table
 pub text-at : (row i : ℕ) → row < 10 → i < length (textOf row) → getD textBytes (row * 16 + i) 0 ≡ getD (textOf row) i 0

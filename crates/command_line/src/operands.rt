@@ -85,13 +85,11 @@ fn with_question(file: usize, ended: bool, words: &[u8], i: usize) -> Request
     ensures { λ r. ⌜ r ≡ questioned file ended (i + 1) (drop i (now (words .entry))) ⌝ }
 {
     if i >= words.len() {
-        return Request::Check(
-            Arguments {
-                file,
-                log: 0,
-                question: 0,
-            },
-        );
+        return Request::Check(Arguments {
+            file,
+            log: 0,
+            question: 0,
+        });
     }
     let number = i + 1;
     if is_behind(ended, words[i]) {
@@ -132,9 +130,23 @@ pub fn for_task(task: Task, log: usize, ended: bool, words: &[u8], i: usize) -> 
                 log,
                 question: 0,
             };
-            if_file(Request::Answer(files), Misuse::NoTable, Misuse::TableFromInput, ended, words, i)
+            if_file(
+                Request::Answer(files),
+                Misuse::NoTable,
+                Misuse::TableFromInput,
+                ended,
+                words,
+                i,
+            )
         }
-        Task::AnswerFromSuFile => if_file(Request::AnswerSu(file), Misuse::NoSuFile, Misuse::SuFileFromInput, ended, words, i),
+        Task::AnswerFromSuFile => if_file(
+            Request::AnswerSu(file),
+            Misuse::NoSuFile,
+            Misuse::SuFileFromInput,
+            ended,
+            words,
+            i,
+        ),
         Task::PrintRecords => if_named(Request::ReadLog(file), Misuse::NoLog, ended, words, i),
         Task::PrintFigures => if_named(Request::Figures(file), Misuse::NoLog, ended, words, i),
         Task::CheckTable => check_table(ended, words, i),

@@ -53,7 +53,9 @@ pub fn count_options(words: &[u8]) -> usize
 
 // The options that may stand together, two by two: the one and the other of each pair.
 const PAIRS: usize = 1;
+
 const ONES: [u8; 1] = [CHECK];
+
 const OTHERS: [u8; 1] = [SU];
 
 // Whether these two are those two.

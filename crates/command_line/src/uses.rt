@@ -119,20 +119,26 @@ pub fn request_of(words: &[u8]) -> Request
     }
 }
 
-// The most arguments that are looked at. Each option stands once, so that so many always have a wrong one among them.
-const ARGUMENTS: usize = 64;
-
-// The request of the program's arguments.
-pub fn requested() -> Request {
-    let mut words = [0u8; 64];
+// The words of the program's arguments, as many as there is room for.
+fn read_words(out: &mut [u8]) -> usize
+    ensures { λ r. ⌜ r ≤ length (now (out .exit)) ⌝ }
+{
     let count = os::arg_count();
-    let mut n: usize = 0;
-    while n < ARGUMENTS {
+    let mut n = 0;
+    while n < out.len() {
         if n + 1 >= count {
-            return request_of(&words[..n]);
+            return n;
         }
-        words[n] = word_at(n + 1);
+        out[n] = word_at(n + 1);
         n += 1;
     }
-    request_of(&words)
+    n
+}
+
+// The request of the program's arguments. Of more than 64 one is wrong, since each option stands once, and the first that is
+// wrong is among the first 64.
+pub fn requested() -> Request {
+    let mut words = [0u8; 64];
+    let n = read_words(&mut words);
+    request_of(&words[..n])
 }

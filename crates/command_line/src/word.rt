@@ -15,16 +15,24 @@ pub const DASH: u8 = 1;
 pub const END_OF_OPTIONS: u8 = 2;
 // It begins with `-` and is none that is known; the known options have larger numbers.
 pub const OTHER_OPTION: u8 = 3;
+
 pub const CHECK: u8 = 4;
+
 pub const SU: u8 = 5;
+
 pub const LOG: u8 = 6;
+
 pub const READ_LOG: u8 = 7;
+
 pub const FIGURES: u8 = 8;
+
 pub const HELP: u8 = 9;
+
 pub const VERSION: u8 = 10;
 
 // What is known of what begins with `-`: so many rows, each a text of up to 16 bytes, its length, and its word.
 const ROWS: usize = 10;
+
 const TEXTS: [u8; 160] = *b"-\0\0\0\0\0\0\0\0\0\0\0\0\0\0\0\
     --\0\0\0\0\0\0\0\0\0\0\0\0\0\0\
     --check\0\0\0\0\0\0\0\0\0\
@@ -35,7 +43,9 @@ const TEXTS: [u8; 160] = *b"-\0\0\0\0\0\0\0\0\0\0\0\0\0\0\0\
     --help\0\0\0\0\0\0\0\0\0\0\
     -h\0\0\0\0\0\0\0\0\0\0\0\0\0\0\
     --version\0\0\0\0\0\0\0";
+
 const LENGTHS: [usize; 10] = [1, 2, 7, 4, 5, 10, 9, 6, 2, 9];
+
 const WORDS: [u8; 10] = [1, 2, 4, 5, 6, 7, 8, 9, 9, 10];
 
 // The i-th byte of the text of a row.

@@ -3,7 +3,6 @@ use Rattle.command_line.proofs.OperandLaws.{table-some, table-none}
 use borrow.Author.Needs.{needs}
 use Rattle.command_line.proofs.operands.check_table.Statement.{statement}
 use Rattle.command_line.proofs.operands.check_table.Tie as tie
-use Rattle.command_line.proofs.operands.with_question.Reads as with-question-reads
 
 add-with-question : tie.Need-add-with-question
 add-with-question c = search needs

@@ -3,7 +3,6 @@ use Rattle.command_line.proofs.OperandLaws.{extra-behind, extra-other}
 use borrow.Author.Needs.{needs}
 use Rattle.command_line.proofs.operands.extra_word.Statement.{statement}
 use Rattle.command_line.proofs.operands.extra_word.Tie as tie
-use Rattle.command_line.proofs.operands.is_behind.Reads as is-behind-reads
 
 is-behind-requires : tie.Need-is-behind-requires
 is-behind-requires c κs = search needs

@@ -3,10 +3,6 @@ use Rattle.command_line.specs.Operands.{forTask}
 use borrow.Author.Needs.{needs}
 use Rattle.command_line.proofs.operands.for_task.Statement.{statement}
 use Rattle.command_line.proofs.operands.for_task.Tie as tie
-use Rattle.command_line.proofs.operands.check_table.Reads as check-table-reads
-use Rattle.command_line.proofs.operands.if_file.Reads as if-file-reads
-use Rattle.command_line.proofs.operands.if_last.Reads as if-last-reads
-use Rattle.command_line.proofs.operands.if_named.Reads as if-named-reads
 
 add-t8 : tie.Need-add-t8
 add-t8 c = search needs

@@ -3,8 +3,6 @@ use Rattle.command_line.proofs.OperandLaws.{file-some, file-input, file
 use borrow.Author.Needs.{needs}
 use Rattle.command_line.proofs.operands.if_file.Statement.{statement}
 use Rattle.command_line.proofs.operands.if_file.Tie as tie
-use Rattle.command_line.proofs.operands.if_last.Reads as if-last-reads
-use Rattle.command_line.proofs.operands.is_input.Reads as is-input-reads
 
 returns : tie.Need-returns
 returns c = let a = c .before .before .args in file-none (a .words .now) (a .i) _ _ _ _ _ (c .if1 .taken)

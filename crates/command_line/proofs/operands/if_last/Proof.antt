@@ -4,7 +4,6 @@ use Rattle.command_line.proofs.OperandLaws.{last-some, last-none}
 use borrow.Author.Needs.{needs}
 use Rattle.command_line.proofs.operands.if_last.Statement.{statement}
 use Rattle.command_line.proofs.operands.if_last.Tie as tie
-use Rattle.command_line.proofs.operands.extra_word.Reads as extra-word-reads
 
 add-extra-word : tie.Need-add-extra-word
 add-extra-word c = search needs

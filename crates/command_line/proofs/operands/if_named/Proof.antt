@@ -3,7 +3,6 @@ use Rattle.command_line.proofs.OperandLaws.{named-some, named-none}
 use borrow.Author.Needs.{needs}
 use Rattle.command_line.proofs.operands.if_named.Statement.{statement}
 use Rattle.command_line.proofs.operands.if_named.Tie as tie
-use Rattle.command_line.proofs.operands.if_last.Reads as if-last-reads
 
 add-if-last : tie.Need-add-if-last
 add-if-last c = search needs

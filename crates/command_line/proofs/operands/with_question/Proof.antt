@@ -3,8 +3,6 @@ use Rattle.command_line.proofs.OperandLaws.{question-none, question-beh
 use borrow.Author.Needs.{needs}
 use Rattle.command_line.proofs.operands.with_question.Statement.{statement}
 use Rattle.command_line.proofs.operands.with_question.Tie as tie
-use Rattle.command_line.proofs.operands.if_last.Reads as if-last-reads
-use Rattle.command_line.proofs.operands.is_behind.Reads as is-behind-reads
 
 returns : tie.Need-returns
 returns c = let a = c .before .before .args in question-none (a .words .now) (a .i) _ _ _ (c .if1 .taken)

@@ -3,7 +3,6 @@ use Rattle.command_line.proofs.OptionLaws.{belongs-file, belongs-option
 use borrow.Author.Needs.{needs}
 use Rattle.command_line.proofs.options.belongs_behind.Statement.{statement}
 use Rattle.command_line.proofs.options.belongs_behind.Tie as tie
-use Rattle.command_line.proofs.options.takes_file.Reads as takes-file-reads
 
 takes-file-requires : tie.Need-takes-file-requires
 takes-file-requires c κs = search needs

@@ -8,7 +8,6 @@ use Rattle.command_line.proofs.OptionLaws.{count-on, count-off, count-e
 use borrow.Author.Needs.{needs}
 use Rattle.command_line.proofs.options.count_options.Statement.{statement}
 use Rattle.command_line.proofs.options.count_options.Tie as tie
-use Rattle.command_line.proofs.options.belongs_behind.Reads as belongs-behind-reads
 
 abbrev Inv-loop : tie.InvT-loop
 Inv-loop words before₀ i₀ before i = (i ≤ length words) × (i + optionCount before (drop i words) ≡ optionCount 0 words)

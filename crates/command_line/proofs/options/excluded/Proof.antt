@@ -7,7 +7,6 @@ use Rattle.command_line.proofs.OptionLaws.{excluding-on, excluding-off,
 use borrow.Author.Needs.{needs}
 use Rattle.command_line.proofs.options.excluded.Statement.{statement}
 use Rattle.command_line.proofs.options.excluded.Tie as tie
-use Rattle.command_line.proofs.options.is_excluded.Reads as is-excluded-reads
 
 abbrev Inv-loop : tie.InvT-loop
 Inv-loop word words i₀ i = excluding word (i + 1) (drop i words) ≡ excluding word 1 words

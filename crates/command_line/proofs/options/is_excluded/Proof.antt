@@ -4,7 +4,6 @@ use Rattle.command_line.proofs.OptionLaws.{excludes-none, excludes-some
 use borrow.Author.Needs.{needs}
 use Rattle.command_line.proofs.options.is_excluded.Statement.{statement}
 use Rattle.command_line.proofs.options.is_excluded.Tie as tie
-use Rattle.command_line.proofs.options.stands_with.Reads as stands-with-reads
 
 returns : tie.Need-returns
 returns c = excludes-none _ _ (c .if1 .taken)

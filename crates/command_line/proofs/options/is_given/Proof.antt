@@ -3,7 +3,6 @@ use Rattle.command_line.proofs.OptionLaws.{given-found, given-none}
 use borrow.Author.Needs.{needs}
 use Rattle.command_line.proofs.options.is_given.Statement.{statement}
 use Rattle.command_line.proofs.options.is_given.Tie as tie
-use Rattle.text.proofs.slice.find_byte.Reads as find-byte-reads
 
 find-byte-requires : tie.Need-find-byte-requires
 find-byte-requires c κs = search needs

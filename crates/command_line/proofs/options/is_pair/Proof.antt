@@ -3,7 +3,6 @@ use Rattle.command_line.proofs.OptionLaws.{ones, others, pair-first, pa
 use borrow.Author.Needs.{needs}
 use Rattle.command_line.proofs.options.is_pair.Statement.{statement}
 use Rattle.command_line.proofs.options.is_pair.Tie as tie
-use Rattle.command_line.proofs.options.are_those.Reads as are-those-reads
 
 array-read-one : tie.Need-array-read-one
 array-read-one c = search needs

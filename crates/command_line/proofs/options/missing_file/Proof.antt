@@ -4,8 +4,6 @@ use Rattle.command_line.proofs.OptionLaws.{lacks-file, lacks-none}
 use borrow.Author.Needs.{needs}
 use Rattle.command_line.proofs.options.missing_file.Statement.{statement}
 use Rattle.command_line.proofs.options.missing_file.Tie as tie
-use Rattle.command_line.proofs.options.takes_file.Reads as takes-file-reads
-use Rattle.command_line.proofs.options.without_file.Reads as without-file-reads
 
 takes-file-requires : tie.Need-takes-file-requires
 takes-file-requires c κs = search needs

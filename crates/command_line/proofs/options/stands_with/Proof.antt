@@ -8,7 +8,6 @@ use Rattle.command_line.specs.Options.{pair, pairs, isPair, standsWith}
 use Rattle.command_line.proofs.OptionLaws.{one-pair}
 use Rattle.command_line.proofs.options.stands_with.Statement.{statement}
 use Rattle.command_line.proofs.options.stands_with.Tie as tie
-use Rattle.command_line.proofs.options.is_pair.Reads as is-pair-reads
 
 abbrev Inv-loop : tie.InvT-loop
 Inv-loop a b k₀ k = any (isPair a b) (drop k pairs) ≡ standsWith a b

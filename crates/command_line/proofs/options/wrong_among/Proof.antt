@@ -9,7 +9,6 @@ use Rattle.command_line.proofs.OptionLaws.{wrong-on, wrong-off, wrong-e
 use borrow.Author.Needs.{needs}
 use Rattle.command_line.proofs.options.wrong_among.Statement.{statement}
 use Rattle.command_line.proofs.options.wrong_among.Tie as tie
-use Rattle.command_line.proofs.options.wrong_option.Reads as wrong-option-reads
 
 abbrev Inv-loop : tie.InvT-loop
 Inv-loop options i₀ i = wrongAmong (take i options) (drop i options) ≡ wrongAmong [] options

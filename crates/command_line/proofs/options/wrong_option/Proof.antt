@@ -3,8 +3,6 @@ use Rattle.command_line.proofs.OptionLaws.{wrong-file, wrong-unknown, w
 use borrow.Author.Needs.{needs}
 use Rattle.command_line.proofs.options.wrong_option.Statement.{statement}
 use Rattle.command_line.proofs.options.wrong_option.Tie as tie
-use Rattle.command_line.proofs.options.excluded.Reads as excluded-reads
-use Rattle.command_line.proofs.options.is_given.Reads as is-given-reads
 
 returns : tie.Need-returns
 returns c = wrong-file _ _ (c .if1 .taken)

@@ -5,7 +5,6 @@ use Rattle.command_line.proofs.RequestLaws.{file-found, file-none}
 use borrow.Author.Needs.{needs}
 use Rattle.command_line.proofs.uses.file_number.Statement.{statement}
 use Rattle.command_line.proofs.uses.file_number.Tie as tie
-use Rattle.text.proofs.slice.find_byte.Reads as find-byte-reads
 
 find-byte-requires : tie.Need-find-byte-requires
 find-byte-requires c κs = search needs

@@ -3,7 +3,6 @@ use Rattle.command_line.proofs.RequestLaws.{task-check-su, task-su, tas
 use borrow.Author.Needs.{needs}
 use Rattle.command_line.proofs.uses.file_task.Statement.{statement}
 use Rattle.command_line.proofs.uses.file_task.Tie as tie
-use Rattle.command_line.proofs.options.is_given.Reads as is-given-reads
 
 is-given-requires : tie.Need-is-given-requires
 is-given-requires c κs = search needs

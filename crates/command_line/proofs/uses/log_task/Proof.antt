@@ -3,8 +3,6 @@ use Rattle.command_line.proofs.RequestLaws.{task-records, task-figures,
 use borrow.Author.Needs.{needs}
 use Rattle.command_line.proofs.uses.log_task.Statement.{statement}
 use Rattle.command_line.proofs.uses.log_task.Tie as tie
-use Rattle.command_line.proofs.options.is_given.Reads as is-given-reads
-use Rattle.command_line.proofs.uses.file_task.Reads as file-task-reads
 
 is-given-requires : tie.Need-is-given-requires
 is-given-requires c κs = search needs

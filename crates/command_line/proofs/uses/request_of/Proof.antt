@@ -7,11 +7,6 @@ use Rattle.command_line.proofs.RequestLaws.{request-bad, request-lacks,
 use borrow.Author.Needs.{needs}
 use Rattle.command_line.proofs.uses.request_of.Statement.{statement}
 use Rattle.command_line.proofs.uses.request_of.Tie as tie
-use Rattle.command_line.proofs.options.count_options.Reads as count-options-reads
-use Rattle.command_line.proofs.options.missing_file.Reads as missing-file-reads
-use Rattle.command_line.proofs.options.wrong_among.Reads as wrong-among-reads
-use Rattle.command_line.proofs.uses.last_of.Reads as last-of-reads
-use Rattle.command_line.proofs.uses.use_of.Reads as use-of-reads
 
 count-options-requires : tie.Need-count-options-requires
 count-options-requires c κs = search needs

@@ -4,9 +4,6 @@ use Rattle.command_line.proofs.RequestLaws.{use-ended, use-plain, ended
 use borrow.Author.Needs.{needs}
 use Rattle.command_line.proofs.uses.use_of.Statement.{statement}
 use Rattle.command_line.proofs.uses.use_of.Tie as tie
-use Rattle.command_line.proofs.operands.for_task.Reads as for-task-reads
-use Rattle.command_line.proofs.uses.file_number.Reads as file-number-reads
-use Rattle.command_line.proofs.uses.task_of.Reads as task-of-reads
 
 task-of-requires : tie.Need-task-of-requires
 task-of-requires c κs = search needs

@@ -8,8 +8,6 @@ use Rattle.command_line.specs.Contract.{textOf}
 use borrow.Author.Needs.{needs}
 use Rattle.command_line.proofs.word.is_text.Statement.{statement}
 use Rattle.command_line.proofs.word.is_text.Tie as tie
-use Rattle.command_line.proofs.word.text_byte.Reads as text-byte-reads
-use Rattle.command_line.proofs.word.text_length.Reads as text-length-reads
 
 abbrev Inv-loop : tie.InvT-loop
 Inv-loop text row i₀ i = (i ≤ length text) × (length text ≡ length (textOf row)) × (same (drop i text) (drop i (textOf row)) ≡ same text (textOf row))

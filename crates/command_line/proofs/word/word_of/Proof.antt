@@ -8,9 +8,6 @@ use Rattle.command_line.proofs.WordLaws.{word-plain, word-dashed, word-
 use borrow.Author.Needs.{needs}
 use Rattle.command_line.proofs.word.word_of.Statement.{statement}
 use Rattle.command_line.proofs.word.word_of.Tie as tie
-use Rattle.command_line.proofs.word.is_text.Reads as is-text-reads
-use Rattle.command_line.proofs.word.row_word.Reads as row-word-reads
-use Rattle.text.proofs.slice.head_is.Reads as head-is-reads
 
 abbrev Inv-loop : tie.InvT-loop
 Inv-loop text row₀ row = named text (drop row options) ≡ wordOf text
