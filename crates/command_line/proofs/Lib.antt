@@ -1,0 +1,4 @@
+mod WordLaws
+mod OptionLaws
+mod OperandLaws
+mod RequestLaws

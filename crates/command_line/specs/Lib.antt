@@ -1,1 +1,5 @@
 pub mod Word
+pub mod Options
+pub mod Operands
+pub mod Request
+pub mod Contract

@@ -79,3 +79,17 @@ pub fn tell_of(i: usize, words: &[u8]) {
     let n = argument(i, &mut word);
     tell_about(&word[..n], words);
 }
+
+// What is wrong with an argument beside another one, which stands between the words and the rest of them.
+pub fn tell_of_both(i: usize, words: &[u8], j: usize, rest: &[u8]) {
+    let mut one = io::buffer();
+    let mut other = io::buffer();
+    let n = argument(i, &mut one);
+    let m = argument(j, &mut other);
+    let mut line = io::large_buffer();
+    let k = put_about(&mut line, &one[..n], words);
+    let l = put_shown(&mut line, k, &other[..m]);
+    let end = put_shown(&mut line, l, rest);
+    io::write_all(STDERR_FILENO, &line[..end]);
+    io::write_all(STDERR_FILENO, b"\n");
+}

@@ -1,7 +1,6 @@
 // Answers with a log, and what is printed of one.
 use checker::file::file_buffer;
 use checker::file::load;
-use command_line::request::LogView;
 use libc::STDIN_FILENO;
 use log::file::Log;
 use log::file::open;
@@ -13,6 +12,12 @@ use streams::input::load_name;
 use streams::message;
 use summary::gather::print_figures;
 use text::slice::equal;
+
+// What is printed of a log.
+pub enum LogView {
+    Records,
+    Figures,
+}
 
 // Answers the questions of standard input from a table, with the log that an argument names, if it can be had.
 fn answer_logged(table: &[u8], i: usize) {

@@ -1,142 +1,63 @@
-use mathlib.Core.Path.{sym, _∙_}
+use mathlib.Core.Path.{_≡_, sym, _∙_}
+use Prim.Native.Nat.{_-_}
+use native.Mathlib.Omega.{arith}
 use borrow.Author.Tests.{not-true, not-false}
+use lib.ListN.{drop}
+use Rattle.command_line.specs.Word.{options, named, wordOf}
+use Rattle.command_line.proofs.WordLaws.{word-plain, word-dashed, word-off, word-on, word-end}
 use borrow.Author.Needs.{needs}
-use Rattle.command_line.specs.Word.{wordOf}
 use Rattle.command_line.proofs.word.word_of.Statement.{statement}
 use Rattle.command_line.proofs.word.word_of.Tie as tie
 
-head-is-requires : tie.Need-head-is-requires
+abbrev Inv-loop : tie.InvT-loop
+Inv-loop text row₀ row = named text (drop row options) ≡ wordOf text
+
+abbrev μ-loop : tie.MeasureT-loop
+μ-loop text row₀ row = 10 - row
+
+head-is-requires : tie.Need-head-is-requires Inv-loop μ-loop
 head-is-requires c κs = search needs
 
-returns : tie.Need-returns
-unfolding wordOf
-returns c = rw (sym (c .before .head-is .ensures) ∙ not-true _ (c .if1 .taken))
+returns : tie.Need-returns Inv-loop μ-loop
+returns c = word-plain _ (sym (c .before .head-is .ensures) ∙ not-true _ (c .if1 .taken))
 
-slice-aggregate-equal : tie.Need-slice-aggregate-equal
-slice-aggregate-equal c = search needs
+loop-holds : tie.Need-loop-holds Inv-loop μ-loop
+loop-holds c = word-dashed _ (sym (c .before .head-is .ensures) ∙ not-false _ (c .if1 .left))
 
-equal-requires : tie.Need-equal-requires
-equal-requires c κs = search needs
+is-text-requires : tie.Need-is-text-requires Inv-loop μ-loop
+is-text-requires c κs = omega arith
 
-returns-2 : tie.Need-returns-2
-unfolding wordOf
-returns-2 c = rw (sym (c .before .before .before .before .head-is .ensures) ∙ not-false _ (c .before .before .before .if1 .left), sym (c .before .equal .ensures) ∙ c .if2 .taken)
+row-word-requires : tie.Need-row-word-requires Inv-loop μ-loop
+row-word-requires c κs = omega arith
 
-slice-aggregate-equal-2 : tie.Need-slice-aggregate-equal-2
-slice-aggregate-equal-2 c = search needs
+returns-2 : tie.Need-returns-2 Inv-loop μ-loop
+returns-2 c = let l = c .before .before .before .before .loop in c .row-word .ensures ∙ word-off (l .row) _ (c .before .before .before .loop-test .taken) (sym (c .before .before .is-text .ensures) ∙ c .before .if2 .taken) ∙ l .inv
 
-equal-requires-2 : tie.Need-equal-requires-2
-equal-requires-2 c κs = search needs
+add-row : tie.Need-add-row Inv-loop μ-loop
+add-row c = omega arith
 
-returns-3 : tie.Need-returns-3
-unfolding wordOf
-returns-3 c = rw (sym (c .before .before .before .before .before .before .before .head-is .ensures) ∙ not-false _ (c .before .before .before .before .before .before .if1 .left), sym (c .before .before .before .before .equal .ensures) ∙ c .before .before .before .if2 .left, sym (c .before .equal2 .ensures) ∙ c .if3 .taken)
+loop-less : tie.Need-loop-less Inv-loop μ-loop
+loop-less c = omega arith
 
-slice-aggregate-equal-3 : tie.Need-slice-aggregate-equal-3
-slice-aggregate-equal-3 c = search needs
+loop-again : tie.Need-loop-again Inv-loop μ-loop
+loop-again c = let l = c .before .before .before .loop in word-on (l .row) _ (c .before .before .loop-test .taken) (sym (c .before .is-text .ensures) ∙ c .if2 .left) ∙ l .inv
 
-equal-requires-3 : tie.Need-equal-requires-3
-equal-requires-3 c κs = search needs
-
-returns-4 : tie.Need-returns-4
-unfolding wordOf
-returns-4 c = rw (sym (c .before .before .before .before .before .before .before .before .before .before .head-is .ensures) ∙ not-false _ (c .before .before .before .before .before .before .before .before .before .if1 .left), sym (c .before .before .before .before .before .before .before .equal .ensures) ∙ c .before .before .before .before .before .before .if2 .left, sym (c .before .before .before .before .equal2 .ensures) ∙ c .before .before .before .if3 .left, sym (c .before .equal3 .ensures) ∙ c .if4 .taken)
-
-slice-aggregate-equal-4 : tie.Need-slice-aggregate-equal-4
-slice-aggregate-equal-4 c = search needs
-
-equal-requires-4 : tie.Need-equal-requires-4
-equal-requires-4 c κs = search needs
-
-returns-5 : tie.Need-returns-5
-unfolding wordOf
-returns-5 c = rw (sym (c .before .before .before .before .before .before .before .before .before .before .before .before .before .head-is .ensures) ∙ not-false _ (c .before .before .before .before .before .before .before .before .before .before .before .before .if1 .left), sym (c .before .before .before .before .before .before .before .before .before .before .equal .ensures) ∙ c .before .before .before .before .before .before .before .before .before .if2 .left, sym (c .before .before .before .before .before .before .before .equal2 .ensures) ∙ c .before .before .before .before .before .before .if3 .left, sym (c .before .before .before .before .equal3 .ensures) ∙ c .before .before .before .if4 .left, sym (c .before .equal4 .ensures) ∙ c .if5 .taken)
-
-slice-aggregate-equal-5 : tie.Need-slice-aggregate-equal-5
-slice-aggregate-equal-5 c = search needs
-
-equal-requires-5 : tie.Need-equal-requires-5
-equal-requires-5 c κs = search needs
-
-returns-6 : tie.Need-returns-6
-unfolding wordOf
-returns-6 c = rw (sym (c .before .before .before .before .before .before .before .before .before .before .before .before .before .before .before .before .head-is .ensures) ∙ not-false _ (c .before .before .before .before .before .before .before .before .before .before .before .before .before .before .before .if1 .left), sym (c .before .before .before .before .before .before .before .before .before .before .before .before .before .equal .ensures) ∙ c .before .before .before .before .before .before .before .before .before .before .before .before .if2 .left, sym (c .before .before .before .before .before .before .before .before .before .before .equal2 .ensures) ∙ c .before .before .before .before .before .before .before .before .before .if3 .left, sym (c .before .before .before .before .before .before .before .equal3 .ensures) ∙ c .before .before .before .before .before .before .if4 .left, sym (c .before .before .before .before .equal4 .ensures) ∙ c .before .before .before .if5 .left, sym (c .before .equal5 .ensures) ∙ c .if6 .taken)
-
-slice-aggregate-equal-6 : tie.Need-slice-aggregate-equal-6
-slice-aggregate-equal-6 c = search needs
-
-equal-requires-6 : tie.Need-equal-requires-6
-equal-requires-6 c κs = search needs
-
-returns-7 : tie.Need-returns-7
-unfolding wordOf
-returns-7 c = rw (sym (c .before .before .before .before .before .before .before .before .before .before .before .before .before .before .before .before .before .before .before .head-is .ensures) ∙ not-false _ (c .before .before .before .before .before .before .before .before .before .before .before .before .before .before .before .before .before .before .if1 .left), sym (c .before .before .before .before .before .before .before .before .before .before .before .before .before .before .before .before .equal .ensures) ∙ c .before .before .before .before .before .before .before .before .before .before .before .before .before .before .before .if2 .left, sym (c .before .before .before .before .before .before .before .before .before .before .before .before .before .equal2 .ensures) ∙ c .before .before .before .before .before .before .before .before .before .before .before .before .if3 .left, sym (c .before .before .before .before .before .before .before .before .before .before .equal3 .ensures) ∙ c .before .before .before .before .before .before .before .before .before .if4 .left, sym (c .before .before .before .before .before .before .before .equal4 .ensures) ∙ c .before .before .before .before .before .before .if5 .left, sym (c .before .before .before .before .equal5 .ensures) ∙ c .before .before .before .if6 .left, sym (c .before .equal6 .ensures) ∙ c .if7 .taken)
-
-slice-aggregate-equal-7 : tie.Need-slice-aggregate-equal-7
-slice-aggregate-equal-7 c = search needs
-
-equal-requires-7 : tie.Need-equal-requires-7
-equal-requires-7 c κs = search needs
-
-returns-8 : tie.Need-returns-8
-unfolding wordOf
-returns-8 c = rw (sym (c .before .before .before .before .before .before .before .before .before .before .before .before .before .before .before .before .before .before .before .before .before .before .head-is .ensures) ∙ not-false _ (c .before .before .before .before .before .before .before .before .before .before .before .before .before .before .before .before .before .before .before .before .before .if1 .left), sym (c .before .before .before .before .before .before .before .before .before .before .before .before .before .before .before .before .before .before .before .equal .ensures) ∙ c .before .before .before .before .before .before .before .before .before .before .before .before .before .before .before .before .before .before .if2 .left, sym (c .before .before .before .before .before .before .before .before .before .before .before .before .before .before .before .before .equal2 .ensures) ∙ c .before .before .before .before .before .before .before .before .before .before .before .before .before .before .before .if3 .left, sym (c .before .before .before .before .before .before .before .before .before .before .before .before .before .equal3 .ensures) ∙ c .before .before .before .before .before .before .before .before .before .before .before .before .if4 .left, sym (c .before .before .before .before .before .before .before .before .before .before .equal4 .ensures) ∙ c .before .before .before .before .before .before .before .before .before .if5 .left, sym (c .before .before .before .before .before .before .before .equal5 .ensures) ∙ c .before .before .before .before .before .before .if6 .left, sym (c .before .before .before .before .equal6 .ensures) ∙ c .before .before .before .if7 .left, sym (c .before .equal7 .ensures) ∙ c .if8 .taken)
-
-slice-aggregate-equal-8 : tie.Need-slice-aggregate-equal-8
-slice-aggregate-equal-8 c = search needs
-
-equal-requires-8 : tie.Need-equal-requires-8
-equal-requires-8 c κs = search needs
-
-returns-9 : tie.Need-returns-9
-unfolding wordOf
-returns-9 c = rw (sym (c .before .before .before .before .before .before .before .before .before .before .before .before .before .before .before .before .before .before .before .before .before .before .before .before .before .head-is .ensures) ∙ not-false _ (c .before .before .before .before .before .before .before .before .before .before .before .before .before .before .before .before .before .before .before .before .before .before .before .before .if1 .left), sym (c .before .before .before .before .before .before .before .before .before .before .before .before .before .before .before .before .before .before .before .before .before .before .equal .ensures) ∙ c .before .before .before .before .before .before .before .before .before .before .before .before .before .before .before .before .before .before .before .before .before .if2 .left, sym (c .before .before .before .before .before .before .before .before .before .before .before .before .before .before .before .before .before .before .before .equal2 .ensures) ∙ c .before .before .before .before .before .before .before .before .before .before .before .before .before .before .before .before .before .before .if3 .left, sym (c .before .before .before .before .before .before .before .before .before .before .before .before .before .before .before .before .equal3 .ensures) ∙ c .before .before .before .before .before .before .before .before .before .before .before .before .before .before .before .if4 .left, sym (c .before .before .before .before .before .before .before .before .before .before .before .before .before .equal4 .ensures) ∙ c .before .before .before .before .before .before .before .before .before .before .before .before .if5 .left, sym (c .before .before .before .before .before .before .before .before .before .before .equal5 .ensures) ∙ c .before .before .before .before .before .before .before .before .before .if6 .left, sym (c .before .before .before .before .before .before .before .equal6 .ensures) ∙ c .before .before .before .before .before .before .if7 .left, sym (c .before .before .before .before .equal7 .ensures) ∙ c .before .before .before .if8 .left, sym (c .before .equal8 .ensures) ∙ c .if9 .taken)
-
-slice-aggregate-equal-9 : tie.Need-slice-aggregate-equal-9
-slice-aggregate-equal-9 c = search needs
-
-equal-requires-9 : tie.Need-equal-requires-9
-equal-requires-9 c κs = search needs
-
-returns-10 : tie.Need-returns-10
-unfolding wordOf
-returns-10 c = rw (sym (c .before .before .before .before .before .before .before .before .before .before .before .before .before .before .before .before .before .before .before .before .before .before .before .before .before .before .before .before .head-is .ensures) ∙ not-false _ (c .before .before .before .before .before .before .before .before .before .before .before .before .before .before .before .before .before .before .before .before .before .before .before .before .before .before .before .if1 .left), sym (c .before .before .before .before .before .before .before .before .before .before .before .before .before .before .before .before .before .before .before .before .before .before .before .before .before .equal .ensures) ∙ c .before .before .before .before .before .before .before .before .before .before .before .before .before .before .before .before .before .before .before .before .before .before .before .before .if2 .left, sym (c .before .before .before .before .before .before .before .before .before .before .before .before .before .before .before .before .before .before .before .before .before .before .equal2 .ensures) ∙ c .before .before .before .before .before .before .before .before .before .before .before .before .before .before .before .before .before .before .before .before .before .if3 .left, sym (c .before .before .before .before .before .before .before .before .before .before .before .before .before .before .before .before .before .before .before .equal3 .ensures) ∙ c .before .before .before .before .before .before .before .before .before .before .before .before .before .before .before .before .before .before .if4 .left, sym (c .before .before .before .before .before .before .before .before .before .before .before .before .before .before .before .before .equal4 .ensures) ∙ c .before .before .before .before .before .before .before .before .before .before .before .before .before .before .before .if5 .left, sym (c .before .before .before .before .before .before .before .before .before .before .before .before .before .equal5 .ensures) ∙ c .before .before .before .before .before .before .before .before .before .before .before .before .if6 .left, sym (c .before .before .before .before .before .before .before .before .before .before .equal6 .ensures) ∙ c .before .before .before .before .before .before .before .before .before .if7 .left, sym (c .before .before .before .before .before .before .before .equal7 .ensures) ∙ c .before .before .before .before .before .before .if8 .left, sym (c .before .before .before .before .equal8 .ensures) ∙ c .before .before .before .if9 .left, sym (c .before .equal9 .ensures) ∙ c .if10 .taken)
-
-returns-11 : tie.Need-returns-11
-unfolding wordOf
-returns-11 c = rw (sym (c .before .before .before .before .before .before .before .before .before .before .before .before .before .before .before .before .before .before .before .before .before .before .before .before .before .before .before .before .head-is .ensures) ∙ not-false _ (c .before .before .before .before .before .before .before .before .before .before .before .before .before .before .before .before .before .before .before .before .before .before .before .before .before .before .before .if1 .left), sym (c .before .before .before .before .before .before .before .before .before .before .before .before .before .before .before .before .before .before .before .before .before .before .before .before .before .equal .ensures) ∙ c .before .before .before .before .before .before .before .before .before .before .before .before .before .before .before .before .before .before .before .before .before .before .before .before .if2 .left, sym (c .before .before .before .before .before .before .before .before .before .before .before .before .before .before .before .before .before .before .before .before .before .before .equal2 .ensures) ∙ c .before .before .before .before .before .before .before .before .before .before .before .before .before .before .before .before .before .before .before .before .before .if3 .left, sym (c .before .before .before .before .before .before .before .before .before .before .before .before .before .before .before .before .before .before .before .equal3 .ensures) ∙ c .before .before .before .before .before .before .before .before .before .before .before .before .before .before .before .before .before .before .if4 .left, sym (c .before .before .before .before .before .before .before .before .before .before .before .before .before .before .before .before .equal4 .ensures) ∙ c .before .before .before .before .before .before .before .before .before .before .before .before .before .before .before .if5 .left, sym (c .before .before .before .before .before .before .before .before .before .before .before .before .before .equal5 .ensures) ∙ c .before .before .before .before .before .before .before .before .before .before .before .before .if6 .left, sym (c .before .before .before .before .before .before .before .before .before .before .equal6 .ensures) ∙ c .before .before .before .before .before .before .before .before .before .if7 .left, sym (c .before .before .before .before .before .before .before .equal7 .ensures) ∙ c .before .before .before .before .before .before .if8 .left, sym (c .before .before .before .before .equal8 .ensures) ∙ c .before .before .before .if9 .left, sym (c .before .equal9 .ensures) ∙ c .if10 .left)
+returns-3 : tie.Need-returns-3 Inv-loop μ-loop
+returns-3 c = let l = c .before .loop in word-end (l .row) _ (c .loop-test .left) ∙ l .inv
 
 pub word-of-spec : {M : Type 1} → statement M
 word-of-spec =
     tie.close
     (tie.spec
+    Inv-loop
+    μ-loop
     head-is-requires
     returns
-    slice-aggregate-equal
-    equal-requires
+    loop-holds
+    is-text-requires
+    row-word-requires
     returns-2
-    slice-aggregate-equal-2
-    equal-requires-2
-    returns-3
-    slice-aggregate-equal-3
-    equal-requires-3
-    returns-4
-    slice-aggregate-equal-4
-    equal-requires-4
-    returns-5
-    slice-aggregate-equal-5
-    equal-requires-5
-    returns-6
-    slice-aggregate-equal-6
-    equal-requires-6
-    returns-7
-    slice-aggregate-equal-7
-    equal-requires-7
-    returns-8
-    slice-aggregate-equal-8
-    equal-requires-8
-    returns-9
-    slice-aggregate-equal-9
-    equal-requires-9
-    returns-10
-    returns-11)
+    add-row
+    loop-less
+    loop-again
+    returns-3)
