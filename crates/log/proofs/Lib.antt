@@ -1,3 +1,4 @@
+pub mod AppendLaws
 pub mod FileLaws
 pub mod PrintLaws
 pub mod ShowLaws

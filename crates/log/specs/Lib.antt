@@ -1,2 +1,3 @@
 pub mod Printed
 pub mod Contract
+pub mod Appending
