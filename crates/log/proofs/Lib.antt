@@ -1,3 +1,6 @@
 pub mod FileLaws
 pub mod PrintLaws
 pub mod ShowLaws
+pub mod LogLaws
+pub mod OutputLaws
+pub mod ReadLaws

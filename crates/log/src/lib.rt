@@ -1,4 +1,5 @@
 // The log of the program: records appended to a file, and printed from one.
+mod block; // the lines of the records of a block, without a system call
 pub mod file; // the file that records are appended to
 pub mod print; // the printed line of a record
 pub mod show; // the printed lines of a whole log
