@@ -207,7 +207,6 @@ left-moved old new end h e =
     let z : end - (end - end % 8) ≡ end % 8 = omega arith in
     rw (length-take-le end old h) (ap (λ (n : ℕ). take n new) (sym z) ∙ e ∙ sym (drop-take (end - end % 8) end old))
 
-
 -- one byte more is moved to the front: it stands where it stood, since no store has come so far
 module _ (old new : List ℕ) (from i : ℕ) (h : from + i < length old) (l : length new ≡ length old) (d : drop (from + i) new ≡ drop (from + i) old) where
   pub moved-byte : getD new (from + i) 0 ≡ getD (drop from old) i 0

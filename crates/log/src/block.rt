@@ -43,10 +43,7 @@ pub fn show_block(block: &[u8], out: &mut [u8], start: usize) -> Shown
         waiting = add_line(&block[at..end], out, waiting);
         at = end;
     }
-    Shown {
-        bytes: at,
-        waiting,
-    }
+    Shown { bytes: at, waiting }
 }
 
 // Puts the line of what is left at the end of a log, if anything is.
