@@ -1,3 +1,4 @@
 pub mod Printed
+pub mod LogText
 pub mod Contract
 pub mod Appending

@@ -1,190 +1,168 @@
 // The printed lines of a whole log, block by block.
-use super::print::put_record;
+use super::block::move_front;
+use super::block::show_block;
+use super::block::show_last;
 use record::Record;
 use streams::input::Loaded;
 use streams::input::read_some;
 use streams::message;
-use streams::standard_output::print;
-use text::buffer::Filled;
+use streams::standard_output::Output;
 ghost use mathlib.Core.Path.{_≡_};
-ghost use mathlib.Core.Bool.{true};
-ghost use mathlib.Core.Logic.{_⊎_};
-ghost use Prim.Native.Nat.{_+_, _≤_, _<_};
-ghost use lib.ListN.{length};
-ghost use Rattle.log.specs.Contract.{Room, Within, Shown};
+ghost use mathlib.Core.Bool.{true, false};
+ghost use mathlib.Core.List.{List};
+ghost use Prim.Native.Nat.{ℕ, _≤_};
+ghost use lib.ListN.{length, take, drop};
+ghost use Rattle.streams.specs.Contract.{LoadedIn, Prints};
+ghost use Rattle.log.specs.LogText.{recordLines, lastText};
+ghost use Rattle.log.specs.Contract.{HandsOn, Follows, LoadedBehind, Serves, PrintsLog};
 
 // How far a log has been read and printed.
-struct Progress {
+pub struct Run {
     // The bytes of a record that has only begun, at the front of the block.
-    begun: usize,
-    // The bytes of lines that wait in their buffer.
-    waiting: usize,
+    pub begun: usize,
+    pub output: Output,
     // Whether the run goes on.
-    going: bool,
+    pub going: bool,
+    // Whether the log was read and printed to its end.
+    pub ended: bool,
 }
 
-impl Progress {
-    // No line has more bytes.
-    const LINE: usize = 32;
-
-    fn stopped(self) -> Progress
-        ensures { λ r. ⌜ (r .begun ≡ self .begun) × (r .waiting ≡ 0) ⌝ }
+impl Run {
+    // Nothing was read.
+    fn start() -> Run
+        ensures { λ r. ⌜ (r .begun ≡ 0) × (r .output .handed ≡ 0) × (r .ended ≡ false) ⌝ }
     {
-        Progress {
-            begun: self.begun,
-            waiting: 0,
+        Run {
+            begun: 0,
+            output: Output::new(),
+            going: true,
+            ended: false,
+        }
+    }
+
+    // The same after a read that failed.
+    fn stopped(self) -> Run
+        ensures { λ r. ⌜ (r .begun ≡ 0) × (r .output ≡ self .output) × (r .going ≡ false) × (r .ended ≡ false) ⌝ }
+    {
+        let output = self.output;
+        Run {
+            begun: 0,
+            output,
             going: false,
+            ended: false,
         }
     }
 }
 
-// Writes out the lines that wait, unless the run has stopped.
-fn write_waiting(out: &[u8], progress: Progress) -> Progress
-    requires { ⌜ progress .waiting ≤ length (now out) ⌝ }
-    ensures { λ r. ⌜ (r .begun ≡ progress .begun) × (r .waiting ≡ 0) ⌝ }
+// Hands on the lines that wait: the part is these, as its caller shows.
+fn write_waiting(output: Output, out: &[u8], waiting: usize, part: &[u8]) -> Output
+    requires { ⌜ now part ≡ take waiting (now out) ⌝ }
+    ensures { λ r. ⌜ Prints (take waiting (now (out .entry))) output r ⌝ }
 {
-    if !progress.going {
-        return progress.stopped();
-    }
-    let waiting = progress.waiting;
-    Progress {
-        begun: progress.begun,
-        waiting: 0,
-        going: print(&out[0..waiting]),
-    }
+    output.print(part)
 }
 
-// Writes out the lines that wait where there is no room for another.
-fn make_room(out: &[u8], progress: Progress) -> Progress
-    requires { ⌜ Room (length (now out)) progress ⌝ }
-    ensures { λ r. ⌜ (r .begun ≡ progress .begun) × (r .waiting + 32 ≤ length (now (out .entry))) × ((r .waiting ≡ progress .waiting) ⊎ (r .waiting ≡ 0)) ⌝ }
+// Prints the line of each whole record of a block.
+fn print_records(block: &[u8], out: &mut [u8], start: Output) -> Output
+    requires { ⌜ 32 ≤ length (now out) ⌝ }
+    ensures { λ r. ⌜ HandsOn (recordLines (now (block .entry))) start r ⌝ }
 {
-    if out.len() - progress.waiting >= Progress::LINE {
-        return progress;
-    }
-    write_waiting(out, progress)
-}
-
-// Puts the line of these bytes as a record behind those that wait.
-fn add_line(bytes: &[u8], out: &mut [u8], progress: Progress) -> Progress
-    requires { ⌜ Room (length (now out)) progress ⌝ }
-    ensures { λ r. ⌜ (r .begun ≡ progress .begun) × (r .waiting ≤ length (now (out .exit))) ⌝ }
-    ensures { λ r. ⌜ Shown (now (bytes .entry)) (now (out .entry)) (now (out .exit)) progress r ⌝ }
-{
-    let ready = make_room(out, progress);
-    let waiting = ready.waiting;
-    match put_record(bytes, out, waiting) {
-        Filled::Done(n) => Progress {
-            begun: ready.begun,
-            waiting: n,
-            going: ready.going,
-        },
-        Filled::Full => ready,
-    }
-}
-
-// Puts the line of each whole record of a block.
-fn add_lines(block: &[u8], out: &mut [u8], start: Progress) -> Progress
-    requires { ⌜ Room (length (now out)) start ⌝ }
-    ensures { λ r. ⌜ Room (length (now (out .exit))) r ⌝ }
-{
-    let mut progress = start;
+    let mut output = start;
     let mut at = 0;
-    while block.len() - at >= Record::BYTES && progress.going {
-        let end = at + Record::BYTES;
-        progress = add_line(&block[at..end], out, progress);
-        at = end;
+    while block.len() - at >= Record::BYTES && output.whole {
+        let shown = show_block(&block[at..], out, 0);
+        let waiting = shown.waiting;
+        let lines = &out[..];
+        output = write_waiting(output, lines, waiting, &lines[0..waiting]);
+        at += shown.bytes;
     }
-    progress
+    output
 }
 
-// Moves the bytes of a record that has only begun to the block's front.
-fn move_front(block: &mut [u8], from: usize, end: usize)
-    requires { ⌜ (from ≤ end) × (end ≤ length (now block)) ⌝ }
+// Prints the line of what is left at the end of a log, if anything is.
+fn print_last(left: &[u8], out: &mut [u8], output: Output) -> Output
+    requires { ⌜ 32 ≤ length (now out) ⌝ }
+    ensures { λ r. ⌜ HandsOn (lastText (now (left .entry))) output r ⌝ }
 {
-    let mut i = 0;
-    while i < end - from {
-        block[i] = block[from + i];
-        i += 1;
-    }
+    let waiting = show_last(left, out, 0);
+    let lines = &out[..];
+    write_waiting(output, lines, waiting, &lines[0..waiting])
 }
 
-// Puts the line of what is left at the end, which is no whole record.
-fn finish(block: &[u8], out: &mut [u8], progress: Progress) -> Progress
-    requires { ⌜ Within (length (now block)) (length (now out)) progress ⌝ }
-    ensures { λ r. ⌜ Within (length (now (block .entry))) (length (now (out .exit))) r ⌝ }
+// Prints the lines of the whole records among the block's first bytes, and keeps what is left at its front.
+fn take_block(block: &mut [u8], end: usize, out: &mut [u8], start: Output) -> Run
+    requires { ⌜ (end ≤ length (now block)) × (32 ≤ length (now out)) ⌝ }
+    ensures { λ r. ⌜ r .begun ≤ length (now (block .exit)) ⌝ }
+    ensures { λ r. ⌜ Follows (take end (now (block .entry))) start (take (r .begun) (now (block .exit))) r ⌝ }
 {
-    let begun = progress.begun;
-    if begun == 0 {
-        return progress.stopped();
-    }
-    let shown = add_line(&block[0..begun], out, progress);
-    let written = write_waiting(out, shown);
-    written.stopped()
-}
-
-// Puts the lines of the whole records among the block's first bytes, and keeps what is left.
-fn take_block(block: &mut [u8], end: usize, out: &mut [u8], progress: Progress) -> Progress
-    requires { ⌜ (end ≤ length (now block)) × Within (length (now block)) (length (now out)) progress ⌝ }
-    ensures { λ r. ⌜ Within (length (now (block .exit))) (length (now (out .exit))) r ⌝ }
-{
+    let output = print_records(&block[0..end], out, start);
     let begun = end % Record::BYTES;
-    let whole = end - begun;
-    let shown = add_lines(&block[0..whole], out, progress);
-    move_front(block, whole, end);
-    Progress {
+    move_front(block, end - begun, end);
+    Run {
         begun,
-        waiting: shown.waiting,
-        going: shown.going,
+        output,
+        going: output.whole,
+        ended: false,
     }
 }
 
-// Reads once, and prints the lines of the records that end there before more is read.
-fn read_block(
-    fd: i32,
-    name: &[u8],
-    block: &mut [u8],
-    out: &mut [u8],
-    progress: Progress,
-) -> Progress
-    requires { ⌜ Within (length (now block)) (length (now out)) progress ⌝ }
-    ensures { λ r. ⌜ Within (length (now (block .exit))) (length (now (out .exit))) r ⌝ }
+// What a read told is taken: the bytes behind those of a record that has begun, or the log's end.
+fn take_loaded(loaded: Loaded, name: &[u8], block: &mut [u8], out: &mut [u8], run: Run) -> Run
+    requires { ⌜ LoadedIn (drop (run .begun) (now block)) loaded × (run .begun ≤ length (now block)) × (32 ≤ length (now out)) ⌝ }
+    ensures { λ r. ⌜ r .begun ≤ length (now (block .exit)) ⌝ }
+    ensures { λ r. ⌜ Serves loaded (take (run .begun) (now (block .entry))) (drop (run .begun) (now (block .entry))) run (take (r .begun) (now (block .exit))) r ⌝ }
 {
-    let begun = progress.begun;
-    match read_some(fd, &mut block[begun..]) {
+    let begun = run.begun;
+    let output = run.output;
+    match loaded {
         Loaded::Failed => {
             message::failed(name);
-            progress.stopped()
+            run.stopped()
         }
         Loaded::Bytes(n) => {
             if n == 0 {
-                return finish(block, out, progress);
+                let last = print_last(&block[0..begun], out, output);
+                return Run {
+                    begun: 0,
+                    output: last,
+                    going: false,
+                    ended: true,
+                };
             }
-            let taken = take_block(block, begun + n, out, progress);
-            write_waiting(out, taken)
+            take_block(block, begun + n, out, output)
         }
     }
 }
 
-// Nothing says that the input ends, so the turns are counted down from a number that no run uses up.
-fn read_blocks(fd: i32, name: &[u8], block: &mut [u8], out: &mut [u8])
-    requires { ⌜ (8 ≤ length (now block)) × (32 ≤ length (now out)) ⌝ }
+// Reads once, behind the bytes of a record that has begun, which stay.
+fn read_behind(fd: i32, block: &mut [u8], begun: usize) -> Loaded
+    requires { ⌜ begun ≤ length (now block) ⌝ }
+    ensures { λ r. ⌜ LoadedBehind begun (now (block .entry)) (now (block .exit)) r ⌝ }
 {
-    let mut progress = Progress {
-        begun: 0,
-        waiting: 0,
-        going: true,
-    };
+    read_some(fd, &mut block[begun..])
+}
+
+// Nothing says that the log ends, so the turns are counted down from a number that no run uses up.
+fn read_blocks(fd: i32, name: &[u8], block: &mut [u8], out: &mut [u8]) -> Run
+    requires { ⌜ 32 ≤ length (now out) ⌝ }
+    ensures { λ r. ⌜ PrintsLog r ⌝ }
+{
+    let mut run = Run::start();
     let mut turns = u64::MAX;
-    while turns > 0 && progress.going {
-        progress = read_block(fd, name, block, out, progress);
+    while turns > 0 && run.going {
+        let begun = run.begun;
+        let loaded = read_behind(fd, block, begun);
+        run = take_loaded(loaded, name, block, out, run);
         turns -= 1;
     }
+    run
 }
 
 // Prints a line for each record of an open log, and one for what is left at its end.
-pub fn show(fd: i32, name: &[u8]) {
+pub fn show(fd: i32, name: &[u8]) -> Run
+    ensures { λ r. ⌜ PrintsLog r ⌝ }
+{
     let mut block = io::large_buffer();
     let mut out = io::large_buffer();
-    read_blocks(fd, name, &mut block, &mut out);
+    read_blocks(fd, name, &mut block, &mut out)
 }

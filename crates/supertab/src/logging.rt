@@ -44,8 +44,12 @@ pub fn answer(i: usize, j: usize) {
 // Prints what is asked of an open log.
 fn print_view(view: LogView, fd: i32, name: &[u8]) {
     match view {
-        LogView::Records => show(fd, name),
-        LogView::Figures => print_figures(fd, name),
+        LogView::Records => {
+            show(fd, name);
+        }
+        LogView::Figures => {
+            print_figures(fd, name);
+        }
     }
 }
 
