@@ -92,13 +92,7 @@ fn then_ok(filled: Filled, question: &[u8], out: &mut [u8]) -> Filled
 }
 
 // The name of the table, and that it is ok for this question or what is wrong with it; a place past the table's end is its end.
-pub fn explain(
-    name: &[u8],
-    question: &[u8],
-    table: &[u8],
-    answer: Answer,
-    out: &mut [u8],
-) -> Filled
+pub fn explain(name: &[u8], question: &[u8], table: &[u8], answer: Answer, out: &mut [u8]) -> Filled
     ensures { λ r. ⌜ Wrote (now (out .entry)) (now (out .exit)) 0 (explained (now (name .entry)) (now (question .entry)) (now (table .entry)) answer) r ⌝ }
 {
     let named = put_name(name, out);

@@ -1,7 +1,2 @@
 pub mod AppendLaws
 pub mod FileLaws
-pub mod PrintLaws
-pub mod ShowLaws
-pub mod LogLaws
-pub mod OutputLaws
-pub mod ReadLaws

@@ -1,4 +1,1 @@
-pub mod Printed
-pub mod LogText
-pub mod Contract
 pub mod Appending

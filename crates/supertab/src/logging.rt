@@ -4,7 +4,7 @@ use checker::file::load;
 use libc::STDIN_FILENO;
 use log::file::Log;
 use log::file::open;
-use log::show::show;
+use log_text::show::show;
 use responder::lines::answer_lines;
 use responder::source::Source;
 use streams::input::Loaded;

@@ -1,0 +1,5 @@
+pub mod PrintLaws
+pub mod ShowLaws
+pub mod LogLaws
+pub mod OutputLaws
+pub mod ReadLaws
