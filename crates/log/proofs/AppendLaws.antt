@@ -2,21 +2,21 @@
 use mathlib.Core.Path.{_≡_, refl, sym, ap, _∙_, subst}
 use mathlib.Core.Bool.{Bool, true, false, not, cond}
 use mathlib.Core.List.{List}
-use Prim.Native.Nat.{ℕ, _≤_, _<_, min}
+use Prim.Native.Nat.{ℕ, _≤_, min}
 use native.Mathlib.Omega.{arith}
 use borrow.Author.Tests.{not-true, not-false}
 use lib.Dec.{eqb}
 use lib.IntN.{ℤ}
 use lib.ListN.{length, take, length-take}
-use mir.Syntax.{w64}
-use mir.Val.{SFits, toZ, ofZ}
-use mir.ValLaws.{toZ-ofZ}
 use Rattle.text.proofs.Laws.{clash, take-min}
 use Rattle.io.specs.Counts.{clamped}
 use Rattle.streams.specs.Contract.{countedOn}
 use Rattle.streams.proofs.CountLaws.{counted-none}
 use Rattle.log.specs.declared.appended.Appended.{Appended}
 use Rattle.log.specs.Appending.{tookAll, AfterWrite, HandsOn, AppendsFirst}
+use mir.Syntax.{w64}
+use mir.Val.{SFits, toZ, ofZ}
+use mir.ValLaws.{toZ-ofZ}
 
 -- what a write told, handed on to another function
 module _ (told : ℤ) (part : List ℕ) (f : SFits w64 told) where

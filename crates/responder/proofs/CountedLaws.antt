@@ -2,7 +2,7 @@
 use mathlib.Core.Path.{_≡_, refl, sym, ap, _∙_, subst}
 use mathlib.Core.Bool.{Bool, true, false, cond}
 use mathlib.Core.List.{List, [], _++_}
-use Prim.Native.Nat.{ℕ, _+_, _≤_}
+use Prim.Native.Nat.{ℕ, _≤_}
 use native.Mathlib.Omega.{arith}
 use lib.ListN.{length, take, length-append}
 use lib.Seq.{take-take}
@@ -12,7 +12,6 @@ use Rattle.streams.proofs.CountLaws.{counted-none, counted-twice}
 use Rattle.streams.specs.declared.standard_output.Output.{Output}
 use Rattle.log.specs.declared.file.Log.{Log}
 use Rattle.log.specs.Appending.{Waits, Appends}
-use Rattle.responder.specs.declared.block.Progress.{Progress}
 use Rattle.responder.specs.declared.lines.Run.{Run}
 use Rattle.responder.specs.Contract.{Logs, Counted, halted}
 
@@ -75,7 +74,7 @@ handed-on {answers} {records} {more} {others} {first} {mid} {last} h k = record 
     go false m e f = false-of (last .log .appended .whole) (λ t. not-both (k .whole t) (h .closed e m))
       where
         not-both : mid .log .appended .whole ≡ true → mid .log .appended .whole ≡ false → ⊥
-        not-both x y = let z : _≡_ {A = ℕ} 0 1 = clash cc in clash z
+        not-both x y = clash cc
 
 -- the end of a run hands nothing on
 pub handed-halted : {answers records : List ℕ} {before mid after : Run} → after ≡ halted mid → Counted answers records before mid → Counted answers records before after

@@ -1,8 +1,8 @@
 -- Laws of a whole run: block after block it answers the lines of all that was read. Assumes nothing.
 use mathlib.Core.Path.{_≡_, refl, sym, ap, _∙_, subst}
-use mathlib.Core.Bool.{Bool, true, false}
-use mathlib.Core.List.{List, [], _∷_, _++_, append-nil}
-use mathlib.Core.Logic.{_⊎_, inl, inr}
+use mathlib.Core.Bool.{true}
+use mathlib.Core.List.{List, [], _++_, append-nil}
+use mathlib.Core.Logic.{inl, inr}
 use Prim.Native.Nat.{ℕ, zero, suc, _<_}
 use native.Mathlib.Omega.{arith}
 use lib.ListN.{length, take}
@@ -11,8 +11,8 @@ use Rattle.streams.specs.declared.input.Loaded.{Loaded}
 use Rattle.streams.specs.declared.input.Loaded.the-variants.{Bytes, Failed}
 use Rattle.responder.specs.declared.source.Source.{Source}
 use Rattle.responder.specs.declared.lines.Run.{Run}
-use Rattle.responder.specs.Responses.{endedLines, inputLines, responsesTo, recordsFor, responses, recordsOf}
-use Rattle.responder.specs.Contract.{Stand, standIn, nothing, Series, begun, Counted, Follows, Finishes, Serves, SoFar, Answers, halted}
+use Rattle.responder.specs.Responses.{endedLines, inputLines, responses, recordsOf}
+use Rattle.responder.specs.Contract.{Stand, standIn, nothing, begun, Counted, Follows, Finishes, Serves, SoFar, Answers}
 use Rattle.responder.proofs.BlockLaws.{not-going}
 use Rattle.responder.proofs.CountedLaws.{handed-on, handed-halted}
 use Rattle.responder.proofs.SeriesLaws.{series-handed, series-then, series-responses, series-records}

@@ -1,13 +1,11 @@
-use Rattle.log.proofs.AppendLaws.{took-told}
 use borrow.Author.Needs.{needs}
+use Rattle.log.proofs.AppendLaws.{took-told}
 use Rattle.log.proofs.appended.took_all.Statement.{statement}
 use Rattle.log.proofs.appended.took_all.Tie as tie
 
--- src/appended.rt:21:5
 count-requires : tie.Need-count-requires
 count-requires c κs = search needs
 
--- src/appended.rt:18:1
 returns : tie.Need-returns
 returns c = took-told _ (c .before .before .args .part .now) (c .before .before .fits .told) (c .count .ensures .1)
 

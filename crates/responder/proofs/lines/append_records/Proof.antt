@@ -1,5 +1,5 @@
-use Rattle.responder.proofs.CountedLaws.{logs-first}
 use borrow.Author.Needs.{needs}
+use Rattle.responder.proofs.CountedLaws.{logs-first}
 use Rattle.responder.proofs.lines.append_records.Statement.{statement}
 use Rattle.responder.proofs.lines.append_records.Tie as tie
 

@@ -1,5 +1,5 @@
-use Rattle.responder.proofs.CountedLaws.{prints-as}
 use borrow.Author.Needs.{needs}
+use Rattle.responder.proofs.CountedLaws.{prints-as}
 use Rattle.responder.proofs.lines.write_answers.Statement.{statement}
 use Rattle.responder.proofs.lines.write_answers.Tie as tie
 

@@ -1,28 +1,22 @@
-use Rattle.log.proofs.AppendLaws.{as-told}
-use Rattle.log.proofs.AppendLaws.{whole-so-far, whole-no-more}
-use lib.ListN.{length}
-use Rattle.log.specs.Appending.{tookAll}
 use borrow.Author.Needs.{needs}
+use lib.ListN.{length}
+use Rattle.log.proofs.AppendLaws.{as-told, whole-so-far, whole-no-more}
+use Rattle.log.specs.Appending.{tookAll}
 use Rattle.log.proofs.appended.Appended.after_write.Statement.{statement}
 use Rattle.log.proofs.appended.Appended.after_write.Tie as tie
 
--- src/appended.rt:58:13
 took-all-requires : tie.Need-took-all-requires
 took-all-requires c κs = search needs
 
--- src/appended.rt:60:13
 tell-failure-requires : tie.Need-tell-failure-requires
 tell-failure-requires c κs = search needs
 
--- src/appended.rt:63:20
 count-on-requires : tie.Need-count-on-requires
 count-on-requires c κs = search needs
 
--- src/appended.rt:55:5
 returns : tie.Need-returns
 returns c = record { bytes = c .before .count-on .ensures; whole = whole-so-far (c .if2 .taken) (as-told _ (c .before .before .before .before .before .before .args .part .now) (c .before .before .before .before .before .before .fits .told) (c .before .before .before .took-all .ensures)) }
 
--- src/appended.rt:55:5
 returns-2 : tie.Need-returns-2
 returns-2 c = record { bytes = c .before .count-on .ensures; whole = whole-no-more (tookAll (c .before .before .before .before .before .before .args .told) (length (c .before .before .before .before .before .before .args .part .now))) (c .if2 .left) }
 

@@ -1,17 +1,14 @@
-use Rattle.log.proofs.AppendLaws.{hands-on}
 use borrow.Author.Needs.{needs}
+use Rattle.log.proofs.AppendLaws.{hands-on}
 use Rattle.log.proofs.appended.Appended.write.Statement.{statement}
 use Rattle.log.proofs.appended.Appended.write.Tie as tie
 
--- src/appended.rt:74:13
 write-requires : tie.Need-write-requires
 write-requires c κs = search needs
 
--- src/appended.rt:75:9
 after-write-requires : tie.Need-after-write-requires
 after-write-requires c κs = search needs
 
--- src/appended.rt:70:5
 returns : tie.Need-returns
 returns c = hands-on (c .before .before .before .before .before .pre) (c .after-write .ensures)
 
