@@ -2,7 +2,7 @@
 use mathlib.Core.Path.{_≡_, refl, sym, ap, _∙_, subst}
 use mathlib.Core.Bool.{Bool, true, false}
 use mathlib.Core.List.{List, [], _++_, append-nil}
-use Prim.Native.Nat.{ℕ, zero, suc, _-_, _≤_, _<_}
+use Prim.Native.Nat.{ℕ, zero, suc, _-_, _≤_}
 use native.Mathlib.Omega.{arith}
 use borrow.Rule.Slice.PartMut.{putMid, postOf, take-put}
 use lib.ListN.{length, length-append, length-drop, take, drop, drop-of-length-le}
@@ -12,7 +12,7 @@ use Rattle.streams.specs.Contract.{bytesTold, LoadedIn, countedOn}
 use Rattle.streams.specs.declared.input.Loaded.{Loaded}
 use Rattle.streams.specs.declared.input.Loaded.the-variants.{Bytes, Failed}
 use Rattle.streams.specs.declared.standard_output.Output.{Output}
-use Rattle.log_text.specs.LogText.{linesIn, recordLines, bytesLeft, lastText, logText}
+use Rattle.log_text.specs.LogText.{linesIn, recordLines, bytesLeft, lastText}
 use Rattle.log_text.specs.Contract.{HandsOn, Follows, Finishes, Fails, Serves, LoadedBehind, Reads}
 use Rattle.log_text.specs.declared.show.Run.{Run}
 use Rattle.log_text.proofs.LogLaws.{lines-on, left-on, log-end}

@@ -1,38 +1,28 @@
 use native.Mathlib.Omega.{arith}
+use borrow.Author.Needs.{needs}
 use Rattle.text.proofs.Buffers.{wrote-length, wrote-done, wrote-read}
 use Rattle.log_text.proofs.ShowLaws.{line-fits}
-use borrow.Author.Needs.{needs}
 use Rattle.log_text.proofs.block.add_line.Statement.{statement}
 use Rattle.log_text.proofs.block.add_line.Tie as tie
-use Rattle.log_text.proofs.block.add_line.Reads as reads
-use Rattle.log_text.proofs.block.add_line.Lts as lts
-use Rattle.log_text.proofs.print.put_record.Reads as put-record-reads
 
--- src/block.rt:27:11
 put-record-requires : tie.Need-put-record-requires
 put-record-requires c κs = search needs
 
--- src/block.rt:28:22
 enum-known-n : tie.Need-enum-known-n
 enum-known-n c = search needs
 
--- src/block.rt:29:25
 enum-told : tie.Need-enum-told
 enum-told c = search needs
 
--- src/block.rt:23:1
 same-length : tie.Need-same-length
 same-length c = search needs
 
--- src/block.rt:23:1
 returns : tie.Need-returns
 returns c = let w = c .before .before .before .before .before .put-record .ensures in let e = c .before .n .given .1 in record { within = omega (arith, wrote-done w e .0, wrote-length w); text-behind = wrote-read w e }
 
--- src/block.rt:23:1
 same-length-2 : tie.Need-same-length-2
 same-length-2 c = search needs
 
--- src/block.rt:23:1
 returns-2 : tie.Need-returns-2
 returns-2 c = absurd (line-fits _ (c .before .before .before .before .put-record .ensures) (omega arith) (c .enum-told .given .1))
 

@@ -1,7 +1,7 @@
-use native.Mathlib.Omega.{arith}
-use borrow.Author.Needs.{needs}
 use mathlib.Core.Path.{_≡_, refl, ap, _∙_}
 use Prim.Native.Nat.{_-_, _%_, _≤_}
+use native.Mathlib.Omega.{arith}
+use borrow.Author.Needs.{needs}
 use lib.ListN.{length, length-drop, take}
 use Rattle.text.proofs.Laws.{part-rest, part-start}
 use Rattle.log_text.specs.LogText.{recordLines}
@@ -9,10 +9,6 @@ use Rattle.log_text.specs.Contract.{HandsOn}
 use Rattle.log_text.proofs.OutputLaws.{hands-start, hands-failed, hands-shown, hands-all}
 use Rattle.log_text.proofs.show.print_records.Statement.{statement}
 use Rattle.log_text.proofs.show.print_records.Tie as tie
-use Rattle.log_text.proofs.show.print_records.Reads as reads
-use Rattle.log_text.proofs.show.print_records.Lts as lts
-use Rattle.log_text.proofs.block.show_block.Reads as show-block-reads
-use Rattle.log_text.proofs.show.write_waiting.Reads as write-waiting-reads
 
 abbrev Inv-loop : tie.InvT-loop
 Inv-loop block out₀ output₀ at₀ out output at = (at ≤ length block) × (length out ≡ length out₀) × (32 ≤ length out) × (at % 8 ≡ 0) × HandsOn (recordLines (take at block)) output₀ output
@@ -20,47 +16,36 @@ Inv-loop block out₀ output₀ at₀ out output at = (at ≤ length block) × (
 abbrev μ-loop : tie.MeasureT-loop
 μ-loop block out₀ output₀ at₀ out output at = length block - at
 
--- src/show.rt:72:5
 loop-holds : tie.Need-loop-holds Inv-loop μ-loop
 loop-holds c = (omega arith, refl, c .before .before .pre, refl, hands-start (c .before .before .args .block .now) _ (omega (arith, c .before .before .good)))
 
--- src/show.rt:72:11
 sub-loop : tie.Need-sub-loop Inv-loop μ-loop
 sub-loop c = omega arith
 
--- src/show.rt:73:32
 sub-show-block : tie.Need-sub-show-block Inv-loop μ-loop
 sub-show-block c = omega arith
 
--- src/show.rt:73:32
 part-show-block-start : tie.Need-part-show-block-start Inv-loop μ-loop
 part-show-block-start c = omega arith
 
--- src/show.rt:73:32
 part-show-block-end : tie.Need-part-show-block-end Inv-loop μ-loop
 part-show-block-end c = omega arith
 
--- src/show.rt:73:13
 show-block-requires : tie.Need-show-block-requires Inv-loop μ-loop
 show-block-requires c κs = omega arith
 
--- src/show.rt:76:56
 sub-write-waiting : tie.Need-sub-write-waiting Inv-loop μ-loop
 sub-write-waiting c = omega arith
 
--- src/show.rt:76:56
 part-write-waiting-start : tie.Need-part-write-waiting-start Inv-loop μ-loop
 part-write-waiting-start c = omega arith
 
--- src/show.rt:76:56
 part-write-waiting-end : tie.Need-part-write-waiting-end Inv-loop μ-loop
 part-write-waiting-end c = omega (arith, c .before .before .before .show-block .ensures .0 .within)
 
--- src/show.rt:76:9
 write-waiting-requires : tie.Need-write-waiting-requires Inv-loop μ-loop
 write-waiting-requires c κs = part-start (c .before .before .before .before .show-block .result .waiting) (c .before .before .before .before .show-block .last .1 .0)
 
--- src/show.rt:77:9
 add-at : tie.Need-add-at Inv-loop μ-loop
 add-at c =
     let l = c .before .before .before .before .before .before .before .before .before .before .before .loop in
@@ -68,7 +53,6 @@ add-at c =
     let z = ap length (part-rest (l .at) s) ∙ length-drop (l .at) s in
     omega (arith, c .before .before .before .before .before .before .show-block .ensures .1 .part, z, l .inv .0, c .before .before .before .before .before .before .before .before .before .before .before .before .before .before .good)
 
--- src/show.rt:72:5
 loop-less : tie.Need-loop-less Inv-loop μ-loop
 loop-less c =
     let l = c .before .before .before .before .before .before .before .before .before .before .before .loop in
@@ -78,7 +62,6 @@ loop-less c =
     let m = e .0 .moves (omega (arith, z, c .before .before .before .before .before .before .before .before .before .before .loop-test .taken)) (omega (arith, l .inv .2)) in
     omega (arith, m, e .1 .part, z)
 
--- src/show.rt:72:5
 loop-again : tie.Need-loop-again Inv-loop μ-loop
 loop-again c =
     let l = c .before .before .before .before .before .before .before .before .before .before .before .loop in
@@ -87,19 +70,15 @@ loop-again c =
     let e = c .before .before .before .before .before .before .show-block .ensures in
     (omega (arith, e .1 .part, z, l .inv .0), search needs, search needs, omega (arith, e .1 .whole, l .inv .3), hands-shown s _ (part-rest (l .at) s) (l .inv .0) (l .inv .3) (l .inv .4) (e .1) (c .before .write-waiting .ensures))
 
--- src/show.rt:66:1
 same-length : tie.Need-same-length Inv-loop μ-loop
 same-length c = search needs
 
--- src/show.rt:66:1
 returns : tie.Need-returns Inv-loop μ-loop
 returns c = hands-failed (c .if1 .left)
 
--- src/show.rt:66:1
 same-length-2 : tie.Need-same-length-2 Inv-loop μ-loop
 same-length-2 c = search needs
 
--- src/show.rt:66:1
 returns-2 : tie.Need-returns-2 Inv-loop μ-loop
 returns-2 c = let l = c .before .loop in hands-all (c .before .before .before .before .args .block .now) (l .inv .0) (l .inv .3) (omega (arith, c .loop-test .left)) (l .inv .4)
 

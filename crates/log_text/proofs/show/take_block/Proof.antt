@@ -1,50 +1,37 @@
-use native.Mathlib.Omega.{arith}
 use mathlib.Core.Path.{refl, ap}
+use native.Mathlib.Omega.{arith}
+use borrow.Author.Needs.{needs}
 use Rattle.text.proofs.Laws.{part-start}
 use Rattle.log_text.specs.LogText.{recordLines}
 use Rattle.log_text.proofs.LogLaws.{left-moved}
 use Rattle.log_text.proofs.OutputLaws.{hands-as}
-use borrow.Author.Needs.{needs}
 use Rattle.log_text.proofs.show.take_block.Statement.{statement}
 use Rattle.log_text.proofs.show.take_block.Tie as tie
-use Rattle.log_text.proofs.show.take_block.Reads as reads
-use Rattle.log_text.proofs.show.take_block.Lts as lts
-use Rattle.log_text.proofs.block.move_front.Reads as move-front-reads
-use Rattle.log_text.proofs.show.print_records.Reads as print-records-reads
 
--- src/show.rt:98:32
 sub-print-records : tie.Need-sub-print-records
 sub-print-records c = search needs
 
--- src/show.rt:98:32
 part-print-records-start : tie.Need-part-print-records-start
 part-print-records-start c = search needs
 
--- src/show.rt:98:32
 part-print-records-end : tie.Need-part-print-records-end
 part-print-records-end c = search needs
 
--- src/show.rt:98:9
 print-records-requires : tie.Need-print-records-requires
 print-records-requires c κs = search needs
 
--- src/show.rt:100:23
 sub-move-front : tie.Need-sub-move-front
 sub-move-front c = search needs
 
--- src/show.rt:100:5
 move-front-requires : tie.Need-move-front-requires
 move-front-requires c κs = search needs
 
--- src/show.rt:93:1
 same-length : tie.Need-same-length
 same-length c = search needs
 
--- src/show.rt:93:1
 same-length-2 : tie.Need-same-length-2
 same-length-2 c = search needs
 
--- src/show.rt:93:1
 returns : tie.Need-returns
 returns c =
     let a = c .before .before .before .before .before .before .before .before .before .before .before .before .args in

@@ -1,5 +1,6 @@
+use mathlib.Core.Path.{refl, ap}
 use native.Mathlib.Omega.{arith}
-use mathlib.Core.Path.{refl, ap, sym, _∙_}
+use borrow.Author.Needs.{needs}
 use lib.ListN.{length-drop}
 use lib.Seq.{take-add}
 use Rattle.text.proofs.Laws.{part-start}
@@ -7,63 +8,44 @@ use Rattle.streams.proofs.InputLaws.{loaded-bytes}
 use Rattle.log_text.specs.LogText.{lastText}
 use Rattle.log_text.proofs.OutputLaws.{hands-as}
 use Rattle.log_text.proofs.ReadLaws.{serves-failed, serves-end, serves-bytes}
-use borrow.Author.Needs.{needs}
 use Rattle.log_text.proofs.show.take_loaded.Statement.{statement}
 use Rattle.log_text.proofs.show.take_loaded.Tie as tie
-use Rattle.log_text.proofs.show.take_loaded.Reads as reads
-use Rattle.log_text.proofs.show.take_loaded.Lts as lts
-use Rattle.log_text.proofs.show.Run.stopped.Reads as stopped-reads
-use Rattle.log_text.proofs.show.print_last.Reads as print-last-reads
-use Rattle.log_text.proofs.show.take_block.Reads as take-block-reads
-use Rattle.streams.proofs.message.failed.Reads as failed-reads
 
--- src/show.rt:119:13
 enum-told : tie.Need-enum-told
 enum-told c = search needs
 
--- src/show.rt:119:13
 failed-requires : tie.Need-failed-requires
 failed-requires c κs = search needs
 
--- src/show.rt:120:13
 stopped-requires : tie.Need-stopped-requires
 stopped-requires c κs = search needs
 
--- src/show.rt:122:23
 enum-known-loaded : tie.Need-enum-known-loaded
 enum-known-loaded c = search needs
 
--- src/show.rt:124:39
 sub-print-last : tie.Need-sub-print-last
 sub-print-last c = search needs
 
--- src/show.rt:124:39
 part-print-last-start : tie.Need-part-print-last-start
 part-print-last-start c = search needs
 
--- src/show.rt:124:39
 part-print-last-end : tie.Need-part-print-last-end
 part-print-last-end c = search needs
 
--- src/show.rt:124:21
 print-last-requires : tie.Need-print-last-requires
 print-last-requires c κs = search needs
 
--- src/show.rt:125:17
 same-length : tie.Need-same-length
 same-length c = search needs
 
--- src/show.rt:125:17
 same-length-2 : tie.Need-same-length-2
 same-length-2 c = search needs
 
--- src/show.rt:125:17
 returns : tie.Need-returns
 returns c =
     let a = c .before .before .before .before .before .before .before .before .before .before .before .before .before .before .args in
     (omega arith, serves-end (c .before .before .before .before .before .before .before .before .loaded .given .1) (c .before .before .before .before .before .before .if1 .taken) (record { last = hands-as (ap lastText (part-start (a .run .begun) (a .block .now))) (c .before .before .print-last .ensures); going = refl; ended = refl }))
 
--- src/show.rt:132:31
 add-take-block : tie.Need-add-take-block
 add-take-block c =
     let a = c .before .before .before .before .before .before .before .before .before .args in
@@ -71,7 +53,6 @@ add-take-block c =
     let z = length-drop (a .run .begun) (a .block .now) in
     omega (arith, h .0, z, c .before .before .before .before .before .before .before .before .before .pre .1, c .before .before .before .before .before .before .before .before .before .good)
 
--- src/show.rt:132:13
 take-block-requires : tie.Need-take-block-requires
 take-block-requires c κs =
     let a = c .before .before .before .before .before .before .before .before .before .before .args in
@@ -79,19 +60,15 @@ take-block-requires c κs =
     let z = length-drop (a .run .begun) (a .block .now) in
     (omega (arith, h .0, z, c .before .before .before .before .before .before .before .before .before .before .pre .1), c .before .before .before .before .before .before .before .before .before .before .pre .2)
 
--- src/show.rt:110:1
 returns-2 : tie.Need-returns-2
 returns-2 c = let s = c .stopped .ensures in (omega (arith, s .0), serves-failed (c .before .before .enum-told .given .1) (record { same = s .1; going = s .2; ended = s .3 }))
 
--- src/show.rt:110:1
 same-length-3 : tie.Need-same-length-3
 same-length-3 c = search needs
 
--- src/show.rt:110:1
 same-length-4 : tie.Need-same-length-4
 same-length-4 c = search needs
 
--- src/show.rt:110:1
 returns-3 : tie.Need-returns-3
 returns-3 c =
     let a = c .before .before .before .before .before .before .before .before .before .before .before .before .before .before .before .args in
