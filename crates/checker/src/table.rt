@@ -10,8 +10,11 @@ use streams::argument::argument;
 use streams::input::Loaded;
 use streams::input::load_name;
 use streams::message;
+use streams::standard_output::Output;
 ghost use mathlib.Core.Path.{_≡_};
 ghost use lib.ListN.{length};
+ghost use Rattle.explain.specs.Explained.{explained};
+ghost use Rattle.checker.specs.Contract.{Reports};
 
 // One byte more than a question line may have.
 fn question_buffer() -> [u8; 32769]
@@ -20,11 +23,19 @@ fn question_buffer() -> [u8; 32769]
     [0; 32769]
 }
 
-// Prints what was found in a table that was asked this question.
-fn print_report(name: &[u8], question: &[u8], table: &[u8], answer: Answer) {
+// Hands on what was found in a table that was asked this question.
+fn print_report(
+    output: Output,
+    name: &[u8],
+    question: &[u8],
+    table: &[u8],
+    answer: Answer,
+) -> Output
+    ensures { λ r. ⌜ Reports (explained (now (name .entry)) (now (question .entry)) (now (table .entry)) answer) output r ⌝ }
+{
     let mut out = report_buffer();
     let filled = explain(name, question, table, answer, &mut out);
-    print_filled(filled, &out);
+    print_filled(output, filled, &out)
 }
 
 // Asks the table the question; one that is none is told.
@@ -36,7 +47,9 @@ fn ask(name: &[u8], table: &[u8], line: &[u8]) {
         Answer::MalformedQuestion => {
             message::tell(b"this is no question; write COMMAND USER GROUPS HOST MINUTE AGE ARGS")
         }
-        _ => print_report(name, line, table, answer),
+        _ => {
+            print_report(Output::new(), name, line, table, answer);
+        }
     }
 }
 

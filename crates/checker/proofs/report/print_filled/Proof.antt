@@ -1,5 +1,6 @@
-use borrow.Author.Needs.{needs}
 use Rattle.io.proofs.Counting.{front}
+use Rattle.checker.proofs.ReportLaws.{filled-done, filled-full}
+use borrow.Author.Needs.{needs}
 use Rattle.checker.proofs.report.print_filled.Statement.{statement}
 use Rattle.checker.proofs.report.print_filled.Tie as tie
 
@@ -22,10 +23,10 @@ tell-requires : tie.Need-tell-requires
 tell-requires c κs = search needs
 
 returns : tie.Need-returns
-returns c = search needs
+returns c = filled-done _ _ _ _ _ (c .before .before .before .filled .given .1) (c .print .ensures)
 
 returns-2 : tie.Need-returns-2
-returns-2 c = search needs
+returns-2 c = filled-full _ _ _ _ (c .before .before .enum-told .given .1)
 
 pub print-filled-spec : {M : Type 1} → statement M
 print-filled-spec =

@@ -21,11 +21,14 @@ enum-told c = search needs
 returns : tie.Need-returns
 returns c = search needs
 
+new-requires : tie.Need-new-requires
+new-requires c κs = search needs
+
 array-share-prefix-file : tie.Need-array-share-prefix-file
-array-share-prefix-file c = loaded-bytes (c .before .before .before .before .load-named .ensures) (c .before .n .given .1) .0
+array-share-prefix-file c = loaded-bytes (c .before .before .before .before .before .load-named .ensures) (c .before .before .n .given .1) .0
 
 slice-aggregate-print-report : tie.Need-slice-aggregate-print-report
-slice-aggregate-print-report c = loaded-bytes (c .before .before .before .before .before .load-named .ensures) (c .before .before .n .given .1) .1
+slice-aggregate-print-report c = loaded-bytes (c .before .before .before .before .before .before .load-named .ensures) (c .before .before .before .n .given .1) .1
 
 print-report-requires : tie.Need-print-report-requires
 print-report-requires c κs = search needs
@@ -43,6 +46,7 @@ check-named-spec =
     enum-known-n
     enum-told
     returns
+    new-requires
     array-share-prefix-file
     slice-aggregate-print-report
     print-report-requires
