@@ -68,7 +68,7 @@ fn print_records(block: &[u8], out: &mut [u8], start: Output) -> Output
 {
     let mut output = start;
     let mut at = 0;
-    while block.len() - at >= Record::BYTES && output.whole {
+    while block.len() - at >= Record::BYTES && output.is_whole() {
         let shown = show_block(&block[at..], out, 0);
         let waiting = shown.waiting;
         let lines = &out[..];
@@ -100,7 +100,7 @@ fn take_block(block: &mut [u8], end: usize, out: &mut [u8], start: Output) -> Ru
     Run {
         begun,
         output,
-        going: output.whole,
+        going: output.is_whole(),
         ended: false,
     }
 }

@@ -6,12 +6,12 @@ ghost use mathlib.Core.Bool.{true};
 ghost use lib.ListN.{length};
 ghost use Rattle.streams.specs.Contract.{countedOn, Prints};
 
-// Standard output, with how many bytes were handed to it. The count is private, so that no caller can have one that is
-// larger but by handing bytes on.
+// Standard output, with how many bytes were handed to it. The fields are private, so that no caller can have a larger count
+// but by handing bytes on, nor say that a write failed.
 pub struct Output {
     handed: u64,
     // Whether all of them were written.
-    pub whole: bool,
+    whole: bool,
 }
 
 // A count with so many more; it stays at the largest number, which no run comes to.
@@ -34,6 +34,13 @@ impl Output {
             handed: 0,
             whole: true,
         }
+    }
+
+    // Whether all bytes that were handed on were written.
+    pub fn is_whole(self) -> bool
+        ensures { λ r. ⌜ r ≡ self .whole ⌝ }
+    {
+        self.whole
     }
 
     // Hands these bytes on; a write that fails is told. That they are written is trusted: it is the one line with `write_all`.

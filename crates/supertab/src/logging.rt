@@ -23,7 +23,9 @@ pub enum LogView {
 fn answer_logged(table: &[u8], i: usize) {
     let mut name = io::buffer();
     match load_name(i, b"the name of the log", &mut name) {
-        Loaded::Failed => answer_lines(Source::Table, table, Log::none(), b""),
+        Loaded::Failed => {
+            answer_lines(Source::Table, table, Log::none(), b"");
+        }
         Loaded::Bytes(n) => {
             let opened = open(&name[..n]);
             answer_lines(Source::Table, table, opened, &name[..n]);

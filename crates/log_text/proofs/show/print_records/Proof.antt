@@ -1,4 +1,4 @@
-use mathlib.Core.Path.{_≡_, refl, ap, _∙_}
+use mathlib.Core.Path.{_≡_, refl, sym, ap, _∙_}
 use Prim.Native.Nat.{_-_, _%_, _≤_}
 use native.Mathlib.Omega.{arith}
 use borrow.Author.Needs.{needs}
@@ -21,6 +21,9 @@ loop-holds c = (omega arith, refl, c .before .before .pre, refl, hands-start (c 
 
 sub-loop : tie.Need-sub-loop Inv-loop μ-loop
 sub-loop c = omega arith
+
+is-whole-requires : tie.Need-is-whole-requires Inv-loop μ-loop
+is-whole-requires c κs = search needs
 
 sub-show-block : tie.Need-sub-show-block Inv-loop μ-loop
 sub-show-block c = omega arith
@@ -48,24 +51,24 @@ write-waiting-requires c κs = part-start (c .before .before .before .before .sh
 
 add-at : tie.Need-add-at Inv-loop μ-loop
 add-at c =
-    let l = c .before .before .before .before .before .before .before .before .before .before .before .loop in
-    let s = c .before .before .before .before .before .before .before .before .before .before .before .before .before .before .args .block .now in
+    let l = c .before .before .before .before .before .before .before .before .before .before .before .before .loop in
+    let s = c .before .before .before .before .before .before .before .before .before .before .before .before .before .before .before .args .block .now in
     let z = ap length (part-rest (l .at) s) ∙ length-drop (l .at) s in
-    omega (arith, c .before .before .before .before .before .before .show-block .ensures .1 .part, z, l .inv .0, c .before .before .before .before .before .before .before .before .before .before .before .before .before .before .good)
+    omega (arith, c .before .before .before .before .before .before .show-block .ensures .1 .part, z, l .inv .0, c .before .before .before .before .before .before .before .before .before .before .before .before .before .before .before .good)
 
 loop-less : tie.Need-loop-less Inv-loop μ-loop
 loop-less c =
-    let l = c .before .before .before .before .before .before .before .before .before .before .before .loop in
-    let s = c .before .before .before .before .before .before .before .before .before .before .before .before .before .before .args .block .now in
+    let l = c .before .before .before .before .before .before .before .before .before .before .before .before .loop in
+    let s = c .before .before .before .before .before .before .before .before .before .before .before .before .before .before .before .args .block .now in
     let z = ap length (part-rest (l .at) s) ∙ length-drop (l .at) s in
     let e = c .before .before .before .before .before .before .show-block .ensures in
-    let m = e .0 .moves (omega (arith, z, c .before .before .before .before .before .before .before .before .before .before .loop-test .taken)) (omega (arith, l .inv .2)) in
+    let m = e .0 .moves (omega (arith, z, c .before .before .before .before .before .before .before .before .before .before .before .loop-test .taken)) (omega (arith, l .inv .2)) in
     omega (arith, m, e .1 .part, z)
 
 loop-again : tie.Need-loop-again Inv-loop μ-loop
 loop-again c =
-    let l = c .before .before .before .before .before .before .before .before .before .before .before .loop in
-    let s = c .before .before .before .before .before .before .before .before .before .before .before .before .before .before .args .block .now in
+    let l = c .before .before .before .before .before .before .before .before .before .before .before .before .loop in
+    let s = c .before .before .before .before .before .before .before .before .before .before .before .before .before .before .before .args .block .now in
     let z = ap length (part-rest (l .at) s) ∙ length-drop (l .at) s in
     let e = c .before .before .before .before .before .before .show-block .ensures in
     (omega (arith, e .1 .part, z, l .inv .0), search needs, search needs, omega (arith, e .1 .whole, l .inv .3), hands-shown s _ (part-rest (l .at) s) (l .inv .0) (l .inv .3) (l .inv .4) (e .1) (c .before .write-waiting .ensures))
@@ -74,7 +77,7 @@ same-length : tie.Need-same-length Inv-loop μ-loop
 same-length c = search needs
 
 returns : tie.Need-returns Inv-loop μ-loop
-returns c = hands-failed (c .if1 .left)
+returns c = hands-failed (sym (c .before .is-whole .ensures) ∙ c .if1 .left)
 
 same-length-2 : tie.Need-same-length-2 Inv-loop μ-loop
 same-length-2 c = search needs
@@ -90,6 +93,7 @@ print-records-spec =
     μ-loop
     loop-holds
     sub-loop
+    is-whole-requires
     sub-show-block
     part-show-block-start
     part-show-block-end

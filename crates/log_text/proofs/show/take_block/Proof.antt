@@ -26,6 +26,9 @@ sub-move-front c = search needs
 move-front-requires : tie.Need-move-front-requires
 move-front-requires c κs = search needs
 
+is-whole-requires : tie.Need-is-whole-requires
+is-whole-requires c κs = search needs
+
 same-length : tie.Need-same-length
 same-length c = search needs
 
@@ -34,9 +37,9 @@ same-length-2 c = search needs
 
 returns : tie.Need-returns
 returns c =
-    let a = c .before .before .before .before .before .before .before .before .before .before .before .before .args in
-    let p = c .before .before .before .before .before .before .before .before .before .before .before .before .pre in
-    (omega arith, record { left-over = left-moved (a .block .now) _ (a .end) (p .0) (c .before .before .move-front .ensures); lines = hands-as (ap recordLines (part-start (a .end) (a .block .now))) (c .before .before .before .before .before .before .print-records .ensures); going = refl; ended = refl })
+    let a = c .before .before .before .before .before .before .before .before .before .before .before .before .before .args in
+    let p = c .before .before .before .before .before .before .before .before .before .before .before .before .before .pre in
+    (omega arith, record { left-over = left-moved (a .block .now) _ (a .end) (p .0) (c .before .before .before .move-front .ensures); lines = hands-as (ap recordLines (part-start (a .end) (a .block .now))) (c .before .before .before .before .before .before .before .print-records .ensures); going = c .is-whole .ensures; ended = refl })
 
 pub take-block-spec : {M : Type 1} → statement M
 take-block-spec =
@@ -48,6 +51,7 @@ take-block-spec =
     print-records-requires
     sub-move-front
     move-front-requires
+    is-whole-requires
     same-length
     same-length-2
     returns)
