@@ -1,6 +1,12 @@
 // Which file a descriptor is on, whatever name it was opened by.
+use libc::PATH_MAX;
 use libc::types::stat;
 use libc::types::timespec;
+ghost use Prim.Native.Nat.{_<_};
+ghost use lib.ListN.{length};
+ghost use Rattle.libc.specs.Io.{Ended};
+
+const LAST: usize = PATH_MAX - 1;
 
 // A file's device and its number there.
 pub struct Identity {
@@ -38,18 +44,64 @@ fn no_status() -> stat {
     }
 }
 
-// What the system knows of the file of a descriptor; as it was given where that fails.
-fn filled(fd: i32, mut status: stat) -> stat {
-    libc::fstat(fd, &mut status);
-    status
+// What the system answered, and what it filled in.
+struct Answered {
+    result: i32,
+    status: stat,
 }
 
-// The file of a descriptor; where the system tells nothing of it, it is not regular.
+// What the system knows of the file of a descriptor.
+fn status_on(fd: i32, mut status: stat) -> Answered {
+    let result = libc::fstat(fd, &mut status);
+    Answered { result, status }
+}
+
+// What the system knows of the file of a name.
+fn status_at(path: &[u8; PATH_MAX], mut status: stat) -> Answered
+    requires { ⌜ Ended (now path) ⌝ }
+{
+    let result = libc::stat(path, &mut status);
+    Answered { result, status }
+}
+
+// A name with zeros behind it, by which the system sees where it ends.
+fn ended(name: &[u8]) -> [u8; PATH_MAX]
+    requires { ⌜ length (now name) < 4096 ⌝ }
+    ensures { λ r. ⌜ Ended r ⌝ }
+{
+    let mut path = io::buffer();
+    let mut i = 0;
+    while i < name.len() {
+        path[i] = name[i];
+        i += 1;
+    }
+    path[LAST] = 0;
+    path
+}
+
+// Whether it is known to be a regular file.
+fn is_regular(answered: Answered) -> bool {
+    let status = answered.status;
+    answered.result == 0 && status.st_mode & libc::S_IFMT == libc::S_IFREG
+}
+
+// The file of a descriptor; one that the system tells nothing of is not regular.
 pub fn identify(fd: i32) -> Identity {
-    let status = filled(fd, no_status());
+    let answered = status_on(fd, no_status());
+    let status = answered.status;
     Identity {
         device: status.st_dev,
         number: status.st_ino,
-        is_regular: status.st_mode & libc::S_IFMT == libc::S_IFREG,
+        is_regular: is_regular(answered),
     }
+}
+
+// Whether there is a file of this name that is no regular one. It is not opened, since that of a pipe may wait for ever.
+pub fn is_special(name: &[u8]) -> bool {
+    if name.len() >= PATH_MAX {
+        return false;
+    }
+    let path = ended(name);
+    let answered = status_at(&path, no_status());
+    answered.result == 0 && !is_regular(answered)
 }
