@@ -3,8 +3,11 @@ use libc::PATH_MAX;
 use libc::types::stat;
 use libc::types::timespec;
 ghost use Prim.Native.Nat.{_<_};
+ghost use mathlib.Core.Path.{_≡_};
+ghost use mathlib.Core.Bool.{false};
 ghost use lib.ListN.{length};
 ghost use Rattle.libc.specs.Io.{Ended};
+ghost use Rattle.streams.specs.Contract.{sameFile};
 
 const LAST: usize = PATH_MAX - 1;
 
@@ -13,7 +16,28 @@ pub struct Identity {
     pub device: u64,
     pub number: u64,
     // Whether it is a regular file: no directory, pipe or device.
-    pub is_regular: bool,
+    pub regular: bool,
+}
+
+impl Identity {
+    // Of a file that is not known.
+    pub fn unknown() -> Identity
+        ensures { λ r. ⌜ r .regular ≡ false ⌝ }
+    {
+        Identity {
+            device: 0,
+            number: 0,
+            regular: false,
+        }
+    }
+
+    // Whether both are one regular file.
+    pub fn is_same(self, other: Identity) -> bool
+        ensures { λ r. ⌜ r ≡ sameFile self other ⌝ }
+    {
+        let is_there = (self.device == other.device) & (self.number == other.number);
+        self.regular & other.regular & is_there
+    }
 }
 
 fn no_time() -> timespec {
@@ -92,7 +116,7 @@ pub fn identify(fd: i32) -> Identity {
     Identity {
         device: status.st_dev,
         number: status.st_ino,
-        is_regular: is_regular(answered),
+        regular: is_regular(answered),
     }
 }
 
