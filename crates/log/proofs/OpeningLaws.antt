@@ -2,11 +2,11 @@
 use Prim.Native.Nat.{ℕ, _-_, _%_}
 use mathlib.Core.Path.{_≡_, refl, sym, ap, subst, _∙_}
 use mathlib.Core.Bool.{Bool, true, false}
-use mathlib.Core.List.{List, [], _++_}
+use mathlib.Core.List.{List, [], _++_, append-nil}
 use native.Mathlib.Omega.{arith}
 use borrow.Author.Tests.{eqb-true}
 use lib.Dec.{eqb}
-use lib.ListN.{length, take, length-take, length-append, append-nil}
+use lib.ListN.{length, take, length-take, length-append}
 use Rattle.text.proofs.Laws.{clash}
 use Rattle.streams.specs.Contract.{bytesTold}
 use Rattle.streams.specs.declared.input.Loaded.{Loaded}

@@ -1,65 +1,53 @@
+use Rattle.log.specs.Recognised.{takesRecords}
 use borrow.Author.Needs.{needs}
 use Rattle.log.proofs.opening.is_welcome.Statement.{statement}
 use Rattle.log.proofs.opening.is_welcome.Tie as tie
-use Rattle.log.proofs.opening.is_welcome.Reads as reads
-use Rattle.log.proofs.opening.is_welcome.Lts as lts
-use Rattle.streams.proofs.message.tell_about.Reads as tell-about-reads
 
--- src/opening.rt:84:22
 enum-told : tie.Need-enum-told
 enum-told c = search needs
 
--- src/opening.rt:88:17
 enum-told-2 : tie.Need-enum-told-2
 enum-told-2 c = search needs
 
--- src/opening.rt:88:17
 slice-aggregate-tell-about : tie.Need-slice-aggregate-tell-about
 slice-aggregate-tell-about c = search needs
 
--- src/opening.rt:86:13
 tell-about-requires : tie.Need-tell-about-requires
 tell-about-requires c κs = search needs
 
--- src/opening.rt:95:17
 enum-told-3 : tie.Need-enum-told-3
 enum-told-3 c = search needs
 
--- src/opening.rt:95:17
 slice-aggregate-tell-about-2 : tie.Need-slice-aggregate-tell-about-2
 slice-aggregate-tell-about-2 c = search needs
 
--- src/opening.rt:93:13
 tell-about-requires-2 : tie.Need-tell-about-requires-2
 tell-about-requires-2 c κs = search needs
 
--- src/opening.rt:102:17
 enum-told-4 : tie.Need-enum-told-4
 enum-told-4 c = search needs
 
--- src/opening.rt:102:17
 slice-aggregate-tell-about-3 : tie.Need-slice-aggregate-tell-about-3
 slice-aggregate-tell-about-3 c = search needs
 
--- src/opening.rt:100:13
 tell-about-requires-3 : tie.Need-tell-about-requires-3
 tell-about-requires-3 c κs = search needs
 
--- src/opening.rt:80:1
 returns : tie.Need-returns
-returns c = ?
+unfolding takesRecords
+returns c = rw (c .enum-told .given .1)
 
--- src/opening.rt:80:1
 returns-2 : tie.Need-returns-2
-returns-2 c = ?
+unfolding takesRecords
+returns-2 c = rw (c .before .before .enum-told2 .given .1)
 
--- src/opening.rt:80:1
 returns-3 : tie.Need-returns-3
-returns-3 c = ?
+unfolding takesRecords
+returns-3 c = rw (c .before .before .enum-told3 .given .1)
 
--- src/opening.rt:80:1
 returns-4 : tie.Need-returns-4
-returns-4 c = ?
+unfolding takesRecords
+returns-4 c = rw (c .before .before .enum-told4 .given .1)
 
 pub is-welcome-spec : {M : Type 1} → statement M
 is-welcome-spec =

@@ -1,60 +1,51 @@
+use mathlib.Core.Path.{_≡_, refl}
+use mathlib.Core.List.{List, []}
+use Prim.Native.Nat.{ℕ}
+use borrow.Author.Needs.{needs}
+use lib.ListN.{length}
+use Rattle.log.specs.Contract.{Looked}
+use Rattle.log.proofs.OpeningLaws.{looks-on}
 use Rattle.log.proofs.opening.look_through.Statement.{statement}
 use Rattle.log.proofs.opening.look_through.Tie as tie
-use Rattle.log.proofs.opening.look_through.Reads as reads
-use Rattle.log.proofs.opening.look_through.Lts as lts
-use Rattle.log.proofs.opening.Looking.start.Reads as start-reads
-use Rattle.log.proofs.opening.look_at.Reads as look-at-reads
-use Rattle.streams.proofs.input.read_all.Reads as read-all-reads
 
 abbrev Inv-loop : tie.InvT-loop
-Inv-loop fd block₀ looking₀ turns₀ block looking turns = ?
+Inv-loop fd block₀ looking₀ turns₀ block looking turns = (length block ≡ length block₀) × ((bytes : List ℕ) × Looked bytes looking)
 
 abbrev μ-loop : tie.MeasureT-loop
-μ-loop fd block₀ looking₀ turns₀ block looking turns = ?
+μ-loop fd block₀ looking₀ turns₀ block looking turns = turns
 
--- src/opening.rt:69:9
 start-requires : tie.Need-start-requires Inv-loop μ-loop
-start-requires c κs = ?
+start-requires c κs = search needs
 
--- src/opening.rt:71:5
 loop-holds : tie.Need-loop-holds Inv-loop μ-loop
-loop-holds c = ?
+loop-holds c = (refl, ([], c .start .ensures))
 
--- src/opening.rt:72:13
 read-all-requires : tie.Need-read-all-requires Inv-loop μ-loop
-read-all-requires c κs = ?
+read-all-requires c κs = search needs
 
--- src/opening.rt:73:9
 look-at-requires : tie.Need-look-at-requires Inv-loop μ-loop
-look-at-requires c κs = ?
+look-at-requires c κs = (c .before .before .before .read-all .ensures, search needs, c .before .before .before .before .before .if1 .taken)
 
--- src/opening.rt:74:9
 sub-turns : tie.Need-sub-turns Inv-loop μ-loop
-sub-turns c = ?
+sub-turns c = search needs
 
--- src/opening.rt:71:5
 loop-less : tie.Need-loop-less Inv-loop μ-loop
-loop-less c = ?
+loop-less c = search needs
 
--- src/opening.rt:71:5
 loop-again : tie.Need-loop-again Inv-loop μ-loop
-loop-again c = ?
+loop-again c = (search needs, looks-on (c .look-at .ensures) (c .before .before .before .before .before .before .before .before .loop .inv .1))
 
--- src/opening.rt:65:1
 same-length : tie.Need-same-length Inv-loop μ-loop
-same-length c = ?
+same-length c = search needs
 
--- src/opening.rt:65:1
 returns : tie.Need-returns Inv-loop μ-loop
-returns c = ?
+returns c = c .before .before .loop .inv .1
 
--- src/opening.rt:65:1
 same-length-2 : tie.Need-same-length-2 Inv-loop μ-loop
-same-length-2 c = ?
+same-length-2 c = search needs
 
--- src/opening.rt:65:1
 returns-2 : tie.Need-returns-2 Inv-loop μ-loop
-returns-2 c = ?
+returns-2 c = c .before .loop .inv .1
 
 pub look-through-spec : {M : Type 1} → statement M
 look-through-spec =
