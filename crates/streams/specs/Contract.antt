@@ -2,7 +2,7 @@
 use mathlib.Core.Path.{_≡_}
 use mathlib.Core.Bool.{Bool, true, _&&_}
 use mathlib.Core.List.{List}
-use Prim.Native.Nat.{ℕ, _+_, min}
+use Prim.Native.Nat.{ℕ, _+_, _/_, _%_, min}
 use lib.Dec.{eqb}
 use lib.ListN.{length}
 use Rattle.io.specs.Counts.{Counts}
@@ -28,6 +28,10 @@ countedOn count more = min (count + more) 18446744073709551615
 pub record Prints (bytes : List ℕ) (before after : Output) : Type 0 where
   pub handed : after .handed ≡ countedOn (before .handed) (length bytes)
   pub whole : after .whole ≡ true → before .whole ≡ true
+
+-- POSIX: four bits of a mode tell the kind of file; in Linux they stand above twelve others, and 8 is a regular file
+unfoldable pub regularMode : ℕ → Bool
+regularMode mode = eqb (mode / 4096 % 16) 8
 
 -- both are the same regular file
 unfoldable pub sameFile : (file other : Identity) → Bool

@@ -7,9 +7,16 @@ ghost use mathlib.Core.Path.{_≡_};
 ghost use mathlib.Core.Bool.{false};
 ghost use lib.ListN.{length};
 ghost use Rattle.libc.specs.Io.{Ended};
-ghost use Rattle.streams.specs.Contract.{sameFile};
+ghost use Rattle.streams.specs.Contract.{regularMode, sameFile};
 
 const LAST: usize = PATH_MAX - 1;
+
+// The kind of a file is one of sixteen in its mode, above twelve bits of permissions.
+const KINDS: u32 = 16;
+
+const KIND: u32 = libc::S_IFMT / (KINDS - 1);
+
+const REGULAR: u32 = libc::S_IFREG / KIND;
 
 // A file's device and its number there.
 pub struct Identity {
@@ -103,10 +110,17 @@ fn ended(name: &[u8]) -> [u8; PATH_MAX]
     path
 }
 
+// Whether a mode is that of a regular file.
+fn is_regular_mode(mode: u32) -> bool
+    ensures { λ r. ⌜ r ≡ regularMode mode ⌝ }
+{
+    mode / KIND % KINDS == REGULAR
+}
+
 // Whether it is known to be a regular file.
 fn is_regular(answered: Answered) -> bool {
     let status = answered.status;
-    answered.result == 0 && status.st_mode & libc::S_IFMT == libc::S_IFREG
+    answered.result == 0 && is_regular_mode(status.st_mode)
 }
 
 // The file of a descriptor; one that the system tells nothing of is not regular.
