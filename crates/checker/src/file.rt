@@ -1,5 +1,7 @@
 // The bytes of a table or another file of its size, whole.
 use libc::STDIN_FILENO;
+use streams::identity::Identity;
+use streams::identity::identify;
 use streams::input::Loaded;
 use streams::input::load_name;
 use streams::input::read_all;
@@ -29,18 +31,36 @@ pub fn load_from(fd: i32, name: &[u8], out: &mut [u8]) -> Loaded
     }
 }
 
-// The bytes of the file of this name; a failure is told.
-pub fn load_file(name: &[u8], out: &mut [u8]) -> Loaded
-    ensures { λ r. ⌜ LoadedIn (now (out .exit)) r ⌝ }
+// What was read of a file, and which file it is.
+pub struct FileRead {
+    pub loaded: Loaded,
+    pub identity: Identity,
+}
+
+// The bytes of the file of this name, with its identity; a failure is told.
+fn load_known(name: &[u8], out: &mut [u8]) -> FileRead
+    ensures { λ r. ⌜ LoadedIn (now (out .exit)) (r .loaded) ⌝ }
 {
     let fd = os::open_read(name);
     if fd < 0 {
         message::failed(name);
-        return Loaded::Failed;
+        return FileRead {
+            loaded: Loaded::Failed,
+            identity: Identity::unknown(),
+        };
     }
+    let identity = identify(fd);
     let loaded = load_from(fd, name, out);
     libc::close(fd);
-    loaded
+    FileRead { loaded, identity }
+}
+
+// The bytes of the file of this name; a failure is told.
+pub fn load_file(name: &[u8], out: &mut [u8]) -> Loaded
+    ensures { λ r. ⌜ LoadedIn (now (out .exit)) r ⌝ }
+{
+    let read = load_known(name, out);
+    read.loaded
 }
 
 // The bytes of the file of this name, `-` for standard input; a failure is told.
@@ -53,13 +73,24 @@ pub fn load_named(name: &[u8], out: &mut [u8]) -> Loaded
     load_file(name, out)
 }
 
-// The bytes of the file that an argument names; a failure is told, that of the name by what it is the name of.
-pub fn load(i: usize, what: &[u8], out: &mut [u8]) -> Loaded
-    ensures { λ r. ⌜ LoadedIn (now (out .exit)) r ⌝ }
+// The bytes of the file that an argument names, with its identity; a failure is told, that of the name by what it is the name of.
+pub fn load_argument(i: usize, what: &[u8], out: &mut [u8]) -> FileRead
+    ensures { λ r. ⌜ LoadedIn (now (out .exit)) (r .loaded) ⌝ }
 {
     let mut name = io::buffer();
     let Loaded::Bytes(n) = load_name(i, what, &mut name) else {
-        return Loaded::Failed;
+        return FileRead {
+            loaded: Loaded::Failed,
+            identity: Identity::unknown(),
+        };
     };
-    load_file(&name[..n], out)
+    load_known(&name[..n], out)
+}
+
+// The same without its identity.
+pub fn load(i: usize, what: &[u8], out: &mut [u8]) -> Loaded
+    ensures { λ r. ⌜ LoadedIn (now (out .exit)) r ⌝ }
+{
+    let read = load_argument(i, what, out);
+    read.loaded
 }

@@ -1,2 +1,3 @@
 pub mod AppendLaws
-pub mod FileLaws
+pub mod RecogniseLaws
+pub mod OpeningLaws

@@ -1,12 +1,13 @@
 // Answers with a log, and what is printed of one.
 use checker::file::file_buffer;
-use checker::file::load;
+use checker::file::load_argument;
 use libc::STDIN_FILENO;
 use log::file::Log;
-use log::file::open;
+use log::opening::open;
 use log_text::show::show;
 use responder::lines::answer_lines;
 use responder::source::Source;
+use streams::identity::Identity;
 use streams::input::Loaded;
 use streams::input::load_name;
 use streams::message;
@@ -19,15 +20,15 @@ pub enum LogView {
     Figures,
 }
 
-// Answers the questions of standard input from a table, with the log that an argument names, if it can be had.
-fn answer_logged(table: &[u8], i: usize) {
+// Answers the questions of standard input from the table of this identity, with the log that an argument names, if it can be had.
+fn answer_logged(table: &[u8], identity: Identity, i: usize) {
     let mut name = io::buffer();
     match load_name(i, b"the name of the log", &mut name) {
         Loaded::Failed => {
             answer_lines(Source::Table, table, Log::none(), b"");
         }
         Loaded::Bytes(n) => {
-            let opened = open(&name[..n]);
+            let opened = open(&name[..n], identity);
             answer_lines(Source::Table, table, opened, &name[..n]);
         }
     }
@@ -37,10 +38,13 @@ fn answer_logged(table: &[u8], i: usize) {
 // before the log is opened, so that a wrong table leaves no log behind.
 pub fn answer(i: usize, j: usize) {
     let mut bytes = file_buffer();
-    let Loaded::Bytes(n) = load(j, b"the name of the table", &mut bytes) else {
+    let read = load_argument(j, b"the name of the table", &mut bytes);
+    let loaded = read.loaded;
+    let identity = read.identity;
+    let Loaded::Bytes(n) = loaded else {
         return;
     };
-    answer_logged(&bytes[..n], i);
+    answer_logged(&bytes[..n], identity, i);
 }
 
 // Prints what is asked of an open log.

@@ -6,14 +6,14 @@ use Rattle.supertab.proofs.logging.answer.Tie as tie
 file-buffer-requires : tie.Need-file-buffer-requires
 file-buffer-requires c κs = search needs
 
-slice-aggregate-load : tie.Need-slice-aggregate-load
-slice-aggregate-load c = search needs
+slice-aggregate-load-argument : tie.Need-slice-aggregate-load-argument
+slice-aggregate-load-argument c = search needs
 
-slice-aggregate-load-2 : tie.Need-slice-aggregate-load-2
-slice-aggregate-load-2 c = search needs
+slice-aggregate-load-argument-2 : tie.Need-slice-aggregate-load-argument-2
+slice-aggregate-load-argument-2 c = search needs
 
-load-requires : tie.Need-load-requires
-load-requires c κs = search needs
+load-argument-requires : tie.Need-load-argument-requires
+load-argument-requires c κs = search needs
 
 enum-known-n : tie.Need-enum-known-n
 enum-known-n c = search needs
@@ -25,10 +25,10 @@ returns : tie.Need-returns
 returns c = search needs
 
 array-share-prefix-bytes : tie.Need-array-share-prefix-bytes
-array-share-prefix-bytes c = loaded-bytes (c .before .before .before .before .load .ensures) (c .before .n .given .1) .0
+array-share-prefix-bytes c = loaded-bytes (c .before .before .before .before .load-argument .ensures) (c .before .n .given .1) .0
 
 slice-aggregate-answer-logged : tie.Need-slice-aggregate-answer-logged
-slice-aggregate-answer-logged c = loaded-bytes (c .before .before .before .before .before .load .ensures) (c .before .before .n .given .1) .1
+slice-aggregate-answer-logged c = loaded-bytes (c .before .before .before .before .before .load-argument .ensures) (c .before .before .n .given .1) .1
 
 answer-logged-requires : tie.Need-answer-logged-requires
 answer-logged-requires c κs = search needs
@@ -41,9 +41,9 @@ answer-spec =
     tie.close
     (tie.spec
     file-buffer-requires
-    slice-aggregate-load
-    slice-aggregate-load-2
-    load-requires
+    slice-aggregate-load-argument
+    slice-aggregate-load-argument-2
+    load-argument-requires
     enum-known-n
     enum-told
     returns

@@ -1,7 +1,7 @@
 use borrow.Author.Needs.{needs}
 use Rattle.streams.proofs.InputLaws.{loaded-bytes}
-use Rattle.checker.proofs.file.load.Statement.{statement}
-use Rattle.checker.proofs.file.load.Tie as tie
+use Rattle.checker.proofs.file.load_argument.Statement.{statement}
+use Rattle.checker.proofs.file.load_argument.Tie as tie
 
 buffer-requires : tie.Need-buffer-requires
 buffer-requires c κs = search needs
@@ -18,17 +18,20 @@ enum-known-n c = search needs
 enum-told : tie.Need-enum-told
 enum-told c = search needs
 
+unknown-requires : tie.Need-unknown-requires
+unknown-requires c κs = search needs
+
 returns : tie.Need-returns
 returns c = search needs
 
 array-share-prefix-name : tie.Need-array-share-prefix-name
 array-share-prefix-name c = loaded-bytes (c .before .before .before .before .load-name .ensures) (c .before .n .given .1) .0
 
-slice-aggregate-load-file : tie.Need-slice-aggregate-load-file
-slice-aggregate-load-file c = loaded-bytes (c .before .before .before .before .before .load-name .ensures) (c .before .before .n .given .1) .1
+slice-aggregate-load-known : tie.Need-slice-aggregate-load-known
+slice-aggregate-load-known c = loaded-bytes (c .before .before .before .before .before .load-name .ensures) (c .before .before .n .given .1) .1
 
-load-file-requires : tie.Need-load-file-requires
-load-file-requires c κs = search needs
+load-known-requires : tie.Need-load-known-requires
+load-known-requires c κs = search needs
 
 same-length : tie.Need-same-length
 same-length c = search needs
@@ -36,8 +39,8 @@ same-length c = search needs
 returns-2 : tie.Need-returns-2
 returns-2 c = search needs
 
-pub load-spec : {M : Type 1} → statement M
-load-spec =
+pub load-argument-spec : {M : Type 1} → statement M
+load-argument-spec =
     tie.close
     (tie.spec
     buffer-requires
@@ -45,9 +48,10 @@ load-spec =
     load-name-requires
     enum-known-n
     enum-told
+    unknown-requires
     returns
     array-share-prefix-name
-    slice-aggregate-load-file
-    load-file-requires
+    slice-aggregate-load-known
+    load-known-requires
     same-length
     returns-2)
