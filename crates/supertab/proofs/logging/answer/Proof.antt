@@ -15,8 +15,8 @@ slice-aggregate-load-argument-2 c = search needs
 load-argument-requires : tie.Need-load-argument-requires
 load-argument-requires c κs = search needs
 
-enum-known-n : tie.Need-enum-known-n
-enum-known-n c = search needs
+enum-known-loaded : tie.Need-enum-known-loaded
+enum-known-loaded c = search needs
 
 enum-told : tie.Need-enum-told
 enum-told c = search needs
@@ -25,10 +25,10 @@ returns : tie.Need-returns
 returns c = search needs
 
 array-share-prefix-bytes : tie.Need-array-share-prefix-bytes
-array-share-prefix-bytes c = loaded-bytes (c .before .before .before .before .load-argument .ensures) (c .before .n .given .1) .0
+array-share-prefix-bytes c = loaded-bytes (c .before .before .before .before .before .load-argument .ensures) (c .before .loaded .given .1) .0
 
 slice-aggregate-answer-logged : tie.Need-slice-aggregate-answer-logged
-slice-aggregate-answer-logged c = loaded-bytes (c .before .before .before .before .before .load-argument .ensures) (c .before .before .n .given .1) .1
+slice-aggregate-answer-logged c = loaded-bytes (c .before .before .before .before .before .before .load-argument .ensures) (c .before .before .loaded .given .1) .1
 
 answer-logged-requires : tie.Need-answer-logged-requires
 answer-logged-requires c κs = search needs
@@ -44,7 +44,7 @@ answer-spec =
     slice-aggregate-load-argument
     slice-aggregate-load-argument-2
     load-argument-requires
-    enum-known-n
+    enum-known-loaded
     enum-told
     returns
     array-share-prefix-bytes
