@@ -34,7 +34,7 @@ fn help() {
         supertab --su FILE < QUESTIONS         print an answer from a su file for each question line\n\
         supertab --read-log FILE               print the records of a log, NUMBER LINE MINUTE AUTH AGE\n\
         supertab --figures FILE                print how many of its records there are of each answer, weekday and hour\n\
-        supertab --check TABLE [QUESTION]      tell whether the table is good, or where it is not and why\n\
+        supertab --check TABLE [QUESTION]      tell whether the table is good for one question, or where it is not and why\n\
         supertab --check --su FILE             tell the same of a su file\n\
         supertab --help, supertab -h           print this\n\
         supertab --version                     print the version\n\
