@@ -1,0 +1,3 @@
+pub mod ActionLaws
+pub mod DefineLaws
+pub mod LineLaws
