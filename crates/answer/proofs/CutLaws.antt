@@ -5,9 +5,8 @@ use mathlib.Core.List.{List, _++_}
 use mathlib.Core.Option.{Option, none, some, orElse, Option·map}
 use Prim.Native.Nat.{ℕ, _≤_}
 use native.Mathlib.Omega.{arith}
-use borrow.Author.Tests.{le-leb, leb-true}
 use lib.Dec.{eqb, leb}
-use lib.ListN.{length, take, length-take, length-append}
+use lib.ListN.{length, take, length-append}
 use lib.Seq.{take-at}
 use Rattle.text.proofs.Laws.{clash}
 use Rattle.fault.specs.declared.Cause.{Cause}
@@ -16,15 +15,17 @@ use Rattle.fault.proofs.Numbers.{above-decisions}
 use Rattle.question.specs.Question.{Question}
 use Rattle.line.specs.Line.{backslash, endsAt, cutPlace}
 use Rattle.line.specs.Fold.{Refusal, faulty, cut}
-use Rattle.line.specs.Refused.{refusedByte}
+use Rattle.line.specs.declared.whole.Acceptance.{Acceptance}
+use Rattle.line.specs.declared.whole.Acceptance.the-variants.{Accepted, Long, RefusedAt}
+use Rattle.line.specs.Whole.{acceptanceOf}
 use Rattle.line.proofs.FoldLaws.{Decides, cuts-told}
-use Rattle.line.proofs.RefusedLaws.{clean-cut}
+use Rattle.line.proofs.WholeLaws.{accepted-cut}
 use Rattle.entry.specs.Verdict.{Verdict, permit, password, stoppedByNargs, stoppedByArgument, stoppedByPath}
 use Rattle.reader.specs.State.{Decision, decidedAt, start}
 use Rattle.reader.specs.Read.{lineRead}
 use Rattle.reader.proofs.ReadLaws.{line-keeps}
-use Rattle.answer.specs.declared.Answer.the-variants.{NoEntry, LongTable, CutShort, SmallBuffer}
-use Rattle.answer.specs.Answer.{tableLimit, leastBuffer, Outcome, result, grantIn, toldOf, toldBy, isDecision, decidingLine}
+use Rattle.answer.specs.declared.Answer.the-variants.{NoEntry, CutShort, SmallBuffer}
+use Rattle.answer.specs.Answer.{leastBuffer, Outcome, result, grantIn, toldOf, toldBy, isDecision, decidingLine}
 use Rattle.answer.specs.Meaning.{Asked, asks, grantedBy, resolved, settled, linesGive, readBytes, readTable, answerOf}
 use Rattle.answer.specs.Cut.{nothingYet, cutAnswer, CutSafe}
 use Rattle.answer.specs.Contract.{WholeOf, CutOf}
@@ -49,24 +50,20 @@ pub record Asks (t : List ℕ) (a : Asked) (b : List ℕ) : Type 0 where
   pub question : Question
   pub room : leb leastBuffer (length b) ≡ true
   pub good : asks a ≡ some question
-  pub size : leb (length t) tableLimit ≡ true
-  pub bytes : refusedByte t ≡ none
+  pub accepted : acceptanceOf t ≡ Accepted
 
 pub asked : (t : List ℕ) (a : Asked) (b : List ℕ) → isDecision (answerOf t a b) ≡ true → Asks t a b
 unfolding answerOf isDecision toldOf
 asked t a b e = room (leb leastBuffer (length b)) refl e
   where
-    bytes : (q : Question) → leb leastBuffer (length b) ≡ true → asks a ≡ some q → leb (length t) tableLimit ≡ true → (p : Option ℕ) → refusedByte t ≡ p → isDecision (readBytes t q b p) ≡ true → Asks t a b
-    bytes q r g s none h f = record { question = q; room = r; good = g; size = s; bytes = h }
-    bytes q r g s (some p) h f = no-decision f
-
-    size : (q : Question) → leb leastBuffer (length b) ≡ true → asks a ≡ some q → (x : Bool) → leb (length t) tableLimit ≡ x → isDecision (cond x (readBytes t q b (refusedByte t)) (result LongTable b)) ≡ true → Asks t a b
-    size q r g true h f = bytes q r g h (refusedByte t) refl f
-    size q r g false h f = no-decision f
+    bytes : (q : Question) → leb leastBuffer (length b) ≡ true → asks a ≡ some q → (x : Acceptance) → acceptanceOf t ≡ x → isDecision (readBytes t q b x) ≡ true → Asks t a b
+    bytes q r g Accepted h f = record { question = q; room = r; good = g; accepted = h }
+    bytes q r g Long h f = no-decision f
+    bytes q r g (RefusedAt p) h f = no-decision f
 
     good : leb leastBuffer (length b) ≡ true → (o : Option Question) → asks a ≡ o → isDecision (readTable t b o) ≡ true → Asks t a b
     good r none h f = no-decision f
-    good r (some q) h f = size q r h (leb (length t) tableLimit) refl f
+    good r (some q) h f = bytes q r h (acceptanceOf t) refl f
 
     room : (x : Bool) → leb leastBuffer (length b) ≡ x → isDecision (cond x (readTable t b (asks a)) (result SmallBuffer b)) ≡ true → Asks t a b
     room true h f = good h (asks a) refl f
@@ -75,13 +72,10 @@ asked t a b e = room (leb leastBuffer (length b)) refl e
 -- then the answer is what the control lines give
 pub read : {t : List ℕ} {a : Asked} {b : List ℕ} (w : Asks t a b) → answerOf t a b ≡ settled b (linesGive (w .question) t)
 unfolding answerOf
-read {t} {a} {b} w = rw (w .room, w .good, w .size, w .bytes)
+read {t} {a} {b} w = rw (w .room, w .good, w .accepted)
 
 cut-asks : (n : ℕ) {t : List ℕ} {a : Asked} {b : List ℕ} → Asks t a b → Asks (take n t) a b
-cut-asks n {t} {a} {b} w =
-    let h = leb-true (length t) tableLimit (w .size) in
-    let k : length (take n t) ≤ tableLimit = omega (arith, length-take n t) in
-    record { question = w .question; room = w .room; good = w .good; size = le-leb _ _ k; bytes = clean-cut n t (w .bytes) }
+cut-asks n {t} {a} {b} w = record { question = w .question; room = w .room; good = w .good; accepted = accepted-cut n t (w .accepted) }
 
 -- ---- what a decision tells
 line-told : (b : List ℕ) (line : ℕ) (v : Verdict) → decidingLine (resolved b line v) ≡ line

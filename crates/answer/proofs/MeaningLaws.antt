@@ -17,7 +17,9 @@ use Rattle.fault.proofs.Readings.{Gives}
 use Rattle.question.specs.Question.{Question}
 use Rattle.line.specs.Line.{backslash, linesOf}
 use Rattle.line.specs.Fold.{Refusal, faulty, cut}
-use Rattle.line.specs.Refused.{refusedByte}
+use Rattle.line.specs.declared.whole.Acceptance.{Acceptance}
+use Rattle.line.specs.declared.whole.Acceptance.the-variants.{Accepted, Long, RefusedAt}
+use Rattle.line.specs.Whole.{acceptanceOf}
 use Rattle.line.proofs.FoldLaws.{run-keeps, run-through}
 use Rattle.options.specs.Options.{Options, idOr, authOr}
 use Rattle.entry.specs.Verdict.{Verdict, permit, password, stoppedByNargs, stoppedByArgument, stoppedByPath}
@@ -26,8 +28,8 @@ use Rattle.reader.specs.Read.{lineRead}
 use Rattle.reader.proofs.ShortSettings.{ShortIds}
 use Rattle.reader.proofs.ShortIds.{ShortVerdict, ShortDecision, ShortState, short-start, short-keeps}
 use Rattle.answer.specs.declared.Answer.{Answer}
-use Rattle.answer.specs.declared.Answer.the-variants.{LongTable, SmallBuffer}
-use Rattle.answer.specs.Answer.{tableLimit, leastBuffer, Outcome, result, Grant, Beside, Told, told, granted, atLine, atPlace, stringIn, grantIn, toldOf, toldBy}
+use Rattle.answer.specs.declared.Answer.the-variants.{SmallBuffer}
+use Rattle.answer.specs.Answer.{leastBuffer, Outcome, result, Grant, Beside, Told, told, granted, atLine, atPlace, stringIn, grantIn, toldOf, toldBy}
 use Rattle.answer.specs.Meaning.{Asked, asks, ended, strings, timeoutTold, countTold, grantedBy, resolved, settled, linesGive, readBytes, readTable, answerOf}
 use Rattle.answer.proofs.CutLaws.{Asks, read}
 
@@ -92,15 +94,12 @@ short-lines q t o e =
 leaves-table : (t b : List ℕ) (o : Option Question) → Leaves b (readTable t b o)
 unfolding toldOf
 leaves-table t b none = untouched _ b refl
-leaves-table t b (some q) = size (leb (length t) tableLimit)
+leaves-table t b (some q) = bytes (acceptanceOf t)
   where
-    bytes : (p : Option ℕ) → Leaves b (readBytes t q b p)
-    bytes none = leaves-settled b (linesGive q t) (short-lines q t)
-    bytes (some p) = untouched _ b refl
-
-    size : (x : Bool) → Leaves b (cond x (readBytes t q b (refusedByte t)) (result LongTable b))
-    size true = bytes (refusedByte t)
-    size false = untouched _ b refl
+    bytes : (x : Acceptance) → Leaves b (readBytes t q b x)
+    bytes Long = untouched _ b refl
+    bytes (RefusedAt p) = untouched _ b refl
+    bytes Accepted = leaves-settled b (linesGive q t) (short-lines q t)
 
 -- every answer keeps the buffer's length, tells at most 1,285 bytes as written, and leaves all behind them as they were; a refusal and the answers 2 to 5 tell none, and so leave the whole buffer
 pub buffer-left : (t : List ℕ) (a : Asked) (b : List ℕ) → Leaves b (answerOf t a b)

@@ -5,7 +5,6 @@ use mathlib.Core.List.{List, []}
 use mathlib.Core.Option.{Option, none, some, orElse, Option·map}
 use Prim.Native.Nat.{ℕ, _+_, _-_, _≤_, _<_, min}
 use native.Mathlib.Omega.{arith}
-use borrow.Author.Tests.{le-leb, lt-leb}
 use lib.ListN.{length, take, drop}
 use Rattle.text.specs.Buffer.{laid}
 use Rattle.text.proofs.Laws.{clash, take-min}
@@ -14,7 +13,8 @@ use Rattle.fault.specs.declared.Cause.{Cause}
 use Rattle.question.specs.Question.{Question}
 use Rattle.line.specs.Line.{backslash}
 use Rattle.line.specs.Fold.{faulty, cut}
-use Rattle.line.specs.Refused.{refusedByte}
+use Rattle.line.specs.declared.whole.Acceptance.{Acceptance}
+use Rattle.line.specs.Whole.{acceptanceOf}
 use Rattle.line.specs.Scan.{scanned}
 use Rattle.line.specs.Kind.{kindOfLine}
 use Rattle.line.specs.Contract.{linesFrom, LineEnds}
@@ -39,13 +39,13 @@ use Rattle.reader.specs.declared.state.Changed.{Changed}
 use Rattle.reader.proofs.ReadLaws.{global-change}
 use Rattle.answer.specs.declared.Granted.{Granted}
 use Rattle.answer.specs.Answer.{Outcome, result}
-use Rattle.answer.specs.Meaning.{strings, grantedBy, settled, linesGive, readTable}
+use Rattle.answer.specs.Meaning.{strings, grantedBy, settled, linesGive, readBytes, readTable}
 use Rattle.answer.specs.Contract.{decidedIn}
 use Rattle.entry.specs.declared.verdict.Verdict.the-variants.{Nargs, Argument, Path as PathLength, Password, Permit}
 use Rattle.entry_line.specs.declared.read.EntryAction.the-variants.{Fault as EntryFault, Passed, Accepts}
 use Rattle.reader.specs.declared.state.LineOutcome.the-variants.{Fault as LineFault, Good as LineGood}
 use Rattle.answer.specs.declared.table.Decision.{Decision as Kept}
-use Rattle.answer.specs.declared.Answer.the-variants.{Permit as AnswerPermit, Password as AnswerPassword, NoEntry, StoppedByNargs, StoppedByArgument, StoppedByPath, LongTable, RefusedByte}
+use Rattle.answer.specs.declared.Answer.the-variants.{Permit as AnswerPermit, Password as AnswerPassword, NoEntry, StoppedByNargs, StoppedByArgument, StoppedByPath}
 
 -- ---- what a line that changes the state comes to
 pub changed-fault : (args : List (List ℕ)) (o : Reading Cause State) {r : Changed} {c : Cause} → Changes args o r → r .outcome ≡ LineFault c → o ≡ fault c
@@ -210,13 +210,5 @@ module _ (b : List ℕ) (d : Kept) (path : List ℕ) where
       settle-permit v = rw (m, v, e, f, whole)
 
 -- ---- the checks of a table before its lines
-module _ (t b : List ℕ) (q : Question) where
-  pub table-long : 32768 < length t → result LongTable b ≡ readTable t b (some q)
-  table-long h = rw (lt-leb (length t) 32768 h)
-
-  module _ (s : length t ≤ 32768) where
-    pub table-refused : {p : ℕ} → some p ≡ refusedByte t → result (RefusedByte p) b ≡ readTable t b (some q)
-    table-refused h = rw (le-leb (length t) 32768 s, ← h)
-
-    pub table-read : none ≡ refusedByte t → {o : Outcome} → o ≡ settled b (linesGive q t) → o ≡ readTable t b (some q)
-    table-read h e = e ∙ rw (le-leb (length t) 32768 s, ← h)
+pub table-by : (t b : List ℕ) (q : Question) {x : Acceptance} → acceptanceOf t ≡ x → {o : Outcome} → o ≡ readBytes t q b x → o ≡ readTable t b (some q)
+table-by t b q e f = rw e f

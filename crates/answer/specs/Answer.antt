@@ -5,15 +5,12 @@ use mathlib.Core.List.{List}
 use lib.Dec.{leb}
 use lib.ListN.{take, drop}
 use Rattle.fault.specs.Fault.{numberOf}
+use Rattle.line.specs.Line.{tableLimit}
 use Rattle.options.specs.declared.timeout.Timeout.{Timeout}
 use Rattle.options.specs.declared.span.Span.{Span}
 use Rattle.answer.specs.declared.Granted.{Granted}
 use Rattle.answer.specs.declared.Answer.{Answer}
 use Rattle.answer.specs.declared.Answer.the-variants.{Permit, Password, NoEntry, StoppedByNargs, StoppedByArgument, StoppedByPath, MalformedQuestion, LongTable, RefusedByte, CutShort, RefusedLine, SmallBuffer}
-
--- the limits of 01: bytes of a table, the least bytes of an answer buffer
-abbrev pub tableLimit : ℕ
-tableLimit = 32768
 
 -- 17: "answer buffer under 2,048 bytes"
 abbrev pub leastBuffer : ℕ

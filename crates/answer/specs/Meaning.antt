@@ -1,6 +1,6 @@
 -- The answer to a question from a table, and the buffer after it: the order of refusals, all control lines, then the decision.
 use Prim.Native.Nat.{ℕ, _+_}
-use mathlib.Core.Bool.{Bool, cond}
+use mathlib.Core.Bool.{cond}
 use mathlib.Core.List.{List, [], _∷_, _++_, flatMap}
 use mathlib.Core.Option.{Option, none, some}
 use lib.IntN.{ℤ}
@@ -14,20 +14,21 @@ use Rattle.question.specs.declared.LastAuthentication.{LastAuthentication}
 use Rattle.question.specs.Question.{Question, questionOf}
 use Rattle.line.specs.Line.{backslash}
 use Rattle.line.specs.Fold.{Refusal, faulty, cut, outcome}
-use Rattle.line.specs.Refused.{refusedByte}
+use Rattle.line.specs.declared.whole.Acceptance.{Acceptance}
+use Rattle.line.specs.declared.whole.Acceptance.the-variants.{Accepted, Long, RefusedAt}
+use Rattle.line.specs.Whole.{acceptanceOf}
 use Rattle.text.specs.Class.{Range}
 use Rattle.options.specs.Options.{Options, authOr, idOr}
 use Rattle.entry.specs.Verdict.{Verdict, permit, password, stoppedByNargs, stoppedByArgument, stoppedByPath}
-use Rattle.reader.specs.State.{State, Decision, start}
+use Rattle.reader.specs.State.{Decision, start}
 use Rattle.reader.specs.Read.{lineRead}
 use Rattle.options.specs.declared.timeout.Timeout.{Timeout}
 use Rattle.options.specs.declared.timeout.Timeout.the-variants.{Unset, Minutes}
 use Rattle.options.specs.declared.span.Span.{Span}
 use Rattle.options.specs.declared.span.Span.the-variants.{Nothing, Between}
 use Rattle.answer.specs.declared.Granted.{Granted}
-use Rattle.answer.specs.declared.Answer.{Answer}
 use Rattle.answer.specs.declared.Answer.the-variants.{Permit, Password, NoEntry, StoppedByNargs, StoppedByArgument, StoppedByPath, MalformedQuestion, LongTable, RefusedByte, CutShort, RefusedLine, SmallBuffer}
-use Rattle.answer.specs.Answer.{tableLimit, leastBuffer, Outcome, result}
+use Rattle.answer.specs.Answer.{leastBuffer, Outcome, result}
 
 -- the parts of a question as a caller gives them; groups and arguments are zero-ended strings one after the other
 pub record Asked : Type 0 where
@@ -89,15 +90,16 @@ settled b (value (some d)) = resolved b (d .line) (d .verdict)
 abbrev pub linesGive : Question → List ℕ → Reading (Refusal Cause) (Option Decision)
 linesGive q t = outcome backslash (lineRead q) (λ s. s .decision) start t
 
--- 12 (first such byte), then control lines in table order
-abbrev pub readBytes : List ℕ → Question → List ℕ → Option ℕ → Outcome
-readBytes t q b (some p) = result (RefusedByte p) b
-readBytes t q b none = settled b (linesGive q t)
+-- 11, then 12 (first such byte), then control lines in table order
+abbrev pub readBytes : List ℕ → Question → List ℕ → Acceptance → Outcome
+readBytes t q b Long = result LongTable b
+readBytes t q b (RefusedAt p) = result (RefusedByte p) b
+readBytes t q b Accepted = settled b (linesGive q t)
 
--- 10, then 11
+-- 10 first
 abbrev pub readTable : List ℕ → List ℕ → Option Question → Outcome
 readTable t b none = result MalformedQuestion b
-readTable t b (some q) = cond (leb (length t) tableLimit) (readBytes t q b (refusedByte t)) (result LongTable b)
+readTable t b (some q) = readBytes t q b (acceptanceOf t)
 
 -- "Order: 17, 10, 11, 12 (first such byte), then control lines in table order, the first faulty one deciding .. Only then the decision"
 unfoldable pub answerOf : List ℕ → Asked → List ℕ → Outcome

@@ -45,9 +45,6 @@ pub enum Answer {
 }
 
 impl Answer {
-    // The most bytes of a table.
-    pub const TABLE: usize = 32768;
-
     // The least bytes of an answer buffer.
     pub const BUFFER: usize = 2048;
 }

@@ -8,9 +8,10 @@ use entry_line::read::EntryAction;
 use entry_line::read::read_entry;
 use line::ends::End;
 use line::ends::control_end;
-use line::refused::refused_byte;
 use line::scan::ScannedLine;
 use line::scan::scan_line;
+use line::whole::Acceptance;
+use line::whole::acceptance_of;
 use options::set::OptionSet;
 use question::LastAuthentication;
 use question::WeekMinute;
@@ -21,7 +22,6 @@ use reader::define::read_define;
 use reader::state::LineOutcome;
 use reader::state::Reader;
 use text::number::at_most;
-use text::slice::Found;
 use variables::Variables;
 use variables::field::FieldText;
 ghost use Prim.Native.Nat.{_≤_};
@@ -30,7 +30,8 @@ ghost use mathlib.Core.Option.{some};
 ghost use lib.ListN.{length};
 ghost use Rattle.fault.specs.Fault.{value};
 ghost use Rattle.question.specs.Question.{Question};
-ghost use Rattle.answer.specs.Answer.{tableLimit, result};
+ghost use Rattle.line.specs.Line.{tableLimit};
+ghost use Rattle.answer.specs.Answer.{result};
 ghost use Rattle.answer.specs.Meaning.{settled, linesGive, readTable};
 ghost use Rattle.answer.specs.Contract.{decidedIn, AskedWith};
 
@@ -256,12 +257,10 @@ pub fn read_table(
 ) -> Answer
     ensures { λ r. ⌜ (2048 ≤ length (now (buffer .entry)) → (q : Question) → AskedWith q (now (command .entry)) (now (user .entry)) (now (groups .entry)) (now (host .entry)) minute last (now (args .entry)) → result r (now (buffer .exit)) ≡ readTable (now (table .entry)) (now (buffer .entry)) (some q)) ⌝ }
 {
-    if table.len() > Answer::TABLE {
-        return Answer::LongTable;
-    }
-    match refused_byte(table) {
-        Found::At(place) => Answer::RefusedByte(place),
-        Found::Nothing => read_lines(
+    match acceptance_of(table) {
+        Acceptance::Long => Answer::LongTable,
+        Acceptance::RefusedAt(place) => Answer::RefusedByte(place),
+        Acceptance::Accepted => read_lines(
             table,
             command,
             user,

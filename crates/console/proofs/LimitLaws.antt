@@ -14,7 +14,6 @@ use Rattle.fault.specs.declared.Cause.{Cause}
 use Rattle.question.specs.Question.{Question}
 use Rattle.line.specs.Line.{backslash, withByte, endsLine, endedLines, cutShort, Line, newlines, placed, linesOf, lastEnd}
 use Rattle.line.specs.Fold.{Refusal, faulty, cut, located, run, outcome}
-use Rattle.line.specs.Refused.{accepted, refusedFrom, refusedByte}
 use Rattle.entry.specs.Verdict.{Verdict}
 use Rattle.reader.specs.State.{State, Decision, decidedAt, start}
 use Rattle.reader.specs.Read.{lineRead}
@@ -96,20 +95,6 @@ outcome-fault {F} {S} step decision s t r e = go (run step (linesOf backslash t)
 -- a faulty or cut line begins in the table, or at its end
 pub refused-place : (q : Question) (t : List ℕ) (r : Refusal Cause) → linesGive q t ≡ fault r → PlaceIn (length t) r
 refused-place q t r e = outcome-fault (lineRead q) (λ s. s .decision) start t r e
-
-refused-from : (at : ℕ) (s : List ℕ) (p : ℕ) → refusedFrom at s ≡ some p → p ≤ at + length s
-unfolding refusedFrom
-refused-from at [] p e = clash cc
-refused-from at (b ∷ s) p e = go (accepted b) (refused-from (at + 1) s p) e
-  where
-    go : (t : Bool) → (refusedFrom (at + 1) s ≡ some p → p ≤ at + 1 + length s) → cond t (refusedFrom (at + 1) s) (some at) ≡ some p → p ≤ at + suc (length s)
-    go true f e = let h = f e in omega arith
-    go false f e = let q : at ≡ p = cc in omega arith
-
--- a refused byte lies in the table
-pub byte-place : (t : List ℕ) (p : ℕ) → refusedByte t ≡ some p → p ≤ length t
-unfolding refusedByte
-byte-place t p e = let h = refused-from 0 t p e in omega arith
 
 -- ---- the deciding line is a line of the table
 abbrev NumberIn : ℕ → Option Decision → Type 0

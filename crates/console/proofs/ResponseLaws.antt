@@ -5,7 +5,7 @@ use mathlib.Core.List.{List, [], _++_}
 use mathlib.Core.Option.{Option, none, some}
 use Prim.Native.Nat.{ℕ, _+_, _≤_}
 use native.Mathlib.Omega.{arith}
-use borrow.Author.Tests.{le-leb, leb-true}
+use borrow.Author.Tests.{le-leb}
 use lib.Dec.{eqb, leb}
 use lib.ListN.{length, length-append, replicate, length-replicate}
 use Rattle.text.specs.Bytes.{bytes}
@@ -14,15 +14,18 @@ use Rattle.text.proofs.Laws.{pick-of}
 use Rattle.fault.specs.Fault.{Reading, fault, value}
 use Rattle.fault.specs.declared.Cause.{Cause}
 use Rattle.question.specs.Question.{Question}
-use Rattle.line.specs.Line.{backslash, linesOf}
+use Rattle.line.specs.Line.{tableLimit, backslash, linesOf}
 use Rattle.line.specs.Fold.{Refusal, faulty, cut}
-use Rattle.line.specs.Refused.{refusedByte}
+use Rattle.line.specs.declared.whole.Acceptance.{Acceptance}
+use Rattle.line.specs.declared.whole.Acceptance.the-variants.{Accepted, Long, RefusedAt}
+use Rattle.line.specs.Whole.{acceptanceOf}
 use Rattle.line.proofs.FoldLaws.{run-keeps, run-through}
+use Rattle.line.proofs.WholeLaws.{accepted-short, refused-within}
 use Rattle.entry.specs.Verdict.{Verdict, permit, password, stoppedByNargs, stoppedByArgument, stoppedByPath}
 use Rattle.reader.specs.State.{Decision, start}
 use Rattle.reader.specs.Read.{lineRead}
 use Rattle.reader.proofs.ShortIds.{ShortVerdict, ShortState, short-start, short-keeps}
-use Rattle.answer.specs.Answer.{tableLimit, leastBuffer, Grant, Beside, granted, atLine, atPlace, Told, told, toldOf, toldBy}
+use Rattle.answer.specs.Answer.{leastBuffer, Grant, Beside, granted, atLine, atPlace, Told, told, toldOf, toldBy}
 use Rattle.answer.specs.Meaning.{Asked, asks, linesGive, answerOf}
 use Rattle.answer.proofs.CutLaws.{Asks, read}
 use Rattle.answer.proofs.MeaningLaws.{verdictTold, decision-told}
@@ -32,7 +35,7 @@ use Rattle.console.specs.Console.{toldFor, response, loggedFor, logged}
 use Rattle.record.proofs.AppendLaws.{bytes-most}
 use Rattle.output.proofs.DecimalLaws.{decimal-short}
 use Rattle.fault.proofs.Numbers.{cause-number}
-use Rattle.console.proofs.LimitLaws.{refused-place, byte-place, decided-line}
+use Rattle.console.proofs.LimitLaws.{refused-place, decided-line}
 
 -- a grant with short strings at a line of the table
 pub record ShortGrant (g : Grant) : Type 0 where
@@ -88,20 +91,14 @@ module _ (t : List ℕ) (a : Asked) (b : List ℕ) where
       room : leb leastBuffer (length b) ≡ true
       room = le-leb leastBuffer (length b) r
 
-      byte : (q : Question) → asks a ≡ some q → leb (length t) tableLimit ≡ true → (p : Option ℕ) → refusedByte t ≡ p → ShortTold (toldBy (answerOf t a b))
-      byte q g s none e = short-lines (record { question = q; room = room; good = g; size = s; bytes = e }) (leb-true (length t) tableLimit s)
-      byte q g s (some p) e =
-          let k = byte-place t p e in
-          let l = leb-true (length t) tableLimit s in
-          rw (room, g, s, e) (record { number = omega arith; beside = omega arith })
-
-      size : (q : Question) → asks a ≡ some q → (x : Bool) → leb (length t) tableLimit ≡ x → ShortTold (toldBy (answerOf t a b))
-      size q g true e = byte q g e (refusedByte t) refl
-      size q g false e = rw (room, g, e) (record { number = omega arith; beside = omega arith })
+      bytes : (q : Question) → asks a ≡ some q → (x : Acceptance) → acceptanceOf t ≡ x → ShortTold (toldBy (answerOf t a b))
+      bytes q g Long e = rw (room, g, e) (record { number = omega arith; beside = omega arith })
+      bytes q g (RefusedAt p) e = rw (room, g, e) (record { number = omega arith; beside = omega (arith, refused-within t e) })
+      bytes q g Accepted e = short-lines (record { question = q; room = room; good = g; accepted = e }) (accepted-short t e)
 
       good : (o : Option Question) → asks a ≡ o → ShortTold (toldBy (answerOf t a b))
       good none e = rw (room, e) (record { number = omega arith; beside = omega arith })
-      good (some q) e = size q e (leb (length t) tableLimit) refl
+      good (some q) e = bytes q e (acceptanceOf t) refl
 
 -- ---- what is short is printed in 2,048 bytes
 id-length : (name id : List ℕ) → length (idText name id) ≤ length name + length id

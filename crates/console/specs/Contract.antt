@@ -16,7 +16,8 @@ use Rattle.options.specs.declared.span.Span.the-variants.{Nothing}
 use Rattle.answer.specs.declared.Granted.{Granted}
 use Rattle.answer.specs.declared.Answer.{Answer}
 use Rattle.answer.specs.declared.Answer.the-variants.{Permit, Password, NoEntry, StoppedByNargs, StoppedByArgument, StoppedByPath, MalformedQuestion, LongTable, RefusedByte, CutShort, RefusedLine, SmallBuffer}
-use Rattle.answer.specs.Answer.{tableLimit, result}
+use Rattle.line.specs.Line.{tableLimit}
+use Rattle.answer.specs.Answer.{result}
 use Rattle.answer.specs.Meaning.{Asked}
 use Rattle.console.specs.QuestionLine.{lineLimit, askedIn}
 use Rattle.record.specs.Contract.{recordWithin}

@@ -2,6 +2,7 @@
 use answer::Answer;
 use answer::Granted;
 use answer::number::number_of;
+use line::whole::WholeText;
 use options::span::Span;
 use options::timeout::Timeout;
 use output::behind::then_all;
@@ -131,7 +132,7 @@ fn place_of(answer: Answer) -> usize
         Answer::StoppedByNargs(line) => line,
         Answer::StoppedByArgument(line) => line,
         Answer::StoppedByPath(line) => line,
-        Answer::LongTable => Answer::TABLE,
+        Answer::LongTable => WholeText::BYTES,
         Answer::RefusedByte(place) => place,
         Answer::CutShort(place) => place,
         Answer::RefusedLine(_, place) => place,

@@ -1,15 +1,21 @@
 -- What the code keeps of an entry's fields, and what its answers say: cited by contracts and proofs only.
-use Prim.Native.Nat.{ℕ}
+use Prim.Native.Nat.{ℕ, _≤_}
 use mathlib.Core.Path.{_≡_}
 use mathlib.Core.Bool.{Bool, true, false, not, cond, _&&_, _||_}
-use mathlib.Core.List.{List, [], _∷_, map}
+use mathlib.Core.List.{List, [], _∷_, _++_, map}
 use mathlib.Core.Option.{Option, none, some}
-use lib.ListN.{drop}
+use lib.Dec.{leb}
+use lib.ListN.{length, drop}
+use Rattle.text.specs.Contract.{filledTo}
 use Rattle.text.specs.Lists.{null}
+use Rattle.text.specs.declared.buffer.Filled.{Filled}
 use Rattle.text.specs.declared.slice.Found.{Found}
 use Rattle.text.specs.declared.slice.Found.the-variants.{At, Nothing}
-use Rattle.fault.specs.Fault.{Reading, fault, value, andThen}
+use Rattle.fault.specs.Fault.{Reading, fault, value, andThen, require}
 use Rattle.fault.specs.declared.Cause.{Cause}
+use Rattle.fault.specs.declared.Cause.the-variants.{FieldLength}
+use Rattle.question.specs.Question.{Question}
+use Rattle.question.specs.declared.LastAuthentication.{LastAuthentication}
 use Rattle.glob.specs.Match.{matchesSome}
 use Rattle.options.specs.Options.{Options}
 use Rattle.options.specs.Arguments.{ArgumentPattern, inForce}
@@ -17,6 +23,7 @@ use Rattle.options.specs.Read.{Setting, optionsOf, argumentsOf}
 use Rattle.options.specs.Contract.{lineOf, optionsIn, failures}
 use Rattle.options.specs.declared.line.LineOptions.{LineOptions}
 use Rattle.condition.specs.declared.rightmost.Rightmost.{Rightmost}
+use Rattle.condition.specs.Condition.{Judge}
 use Rattle.condition.specs.Rightmost.{Judged, judged}
 use Rattle.condition.specs.Contract.{noneKept, addedAll}
 use Rattle.entry.specs.declared.position.Position.{Position as CodePosition}
@@ -32,8 +39,8 @@ use Rattle.entry.specs.declared.verdict.Verdict.{Verdict as CodeVerdict}
 use Rattle.entry.specs.declared.verdict.Verdict.the-variants.{Nargs, Argument, Path as PathLength, Password, Permit}
 use Rattle.entry.specs.declared.pair.CommandRead.{CommandRead}
 use Rattle.entry.specs.declared.pair.CommandRead.the-variants.{Fault as CommandFault, Matches, Misses}
-use Rattle.entry.specs.Verdict.{Verdict, permit, password, stoppedByNargs, stoppedByArgument, stoppedByPath}
-use Rattle.entry.specs.Field.{Pair, Entry, followed, Position, first, second, pairs, rest, FieldRead, fieldRead, aPair, fullPath}
+use Rattle.entry.specs.Verdict.{Verdict, permit, password, stoppedByNargs, stoppedByArgument, stoppedByPath, verdictOn}
+use Rattle.entry.specs.Field.{Pair, Entry, followed, Position, first, second, pairs, rest, FieldRead, fieldRead, aPair, fullPath, pairAt, pathField, fieldOf}
 
 -- ---- the command
 -- a command pattern is taken where something is judged and it matches
@@ -179,6 +186,55 @@ pub record Adds (judging : Bool) (command : List ℕ) (text : ℕ → List ℕ) 
 abbrev pub pathBehind : List (List ℕ) → List ℕ → Position → Reading Cause FieldRead
 pathBehind es t next = andThen (fullPath t) (λ p. value (fieldRead (aPair es p) next))
 
+-- a field whose text is no longer than a field may be
+abbrev pub limitedField : Judge → List ℕ → Position → Reading Cause FieldRead
+limitedField judge t p = require (leb (length t) 1024) FieldLength (fieldOf judge p t)
+
+-- the next field was added, wherever it stands and whatever was kept before: `read` is what it reads as there
+abbrev pub AddsField : Bool → List ℕ → ℕ → List ℕ → (Position → Reading Cause FieldRead) → Kept → Added → Type 0
+AddsField judging command index t read k r =
+    (texts : ℕ → List ℕ) (p : Position) (e : Entry)
+    → texts index ≡ t
+    → Holds judging command texts k p e
+    → Adds judging command texts e (read p) r
+
+-- a path was added that stands in a text from a byte on, of a pair whose command pattern is taken or not
+abbrev pub AddsPath : Kept → Bool → ℕ → List ℕ → ℕ → CodePosition → Added → Type 0
+AddsPath k matches index t at next r =
+    (judging : Bool) (command : List ℕ) (texts : ℕ → List ℕ) (e : Entry) (es : List (List ℕ)) (p : Position)
+    → texts index ≡ t
+    → Keeps judging command texts k e
+    → NoOther e
+    → matches ≡ taken judging command es
+    → Stands judging command (pairedWith k matches index at next) p
+    → Adds judging command texts e (pathBehind es (drop at t) p) r
+
+-- a field was added that has its first `::` at a byte
+abbrev pub AddsPair : Bool → List ℕ → ℕ → List ℕ → ℕ → Kept → Added → Type 0
+AddsPair judging command index t at k r =
+    (texts : ℕ → List ℕ) (e : Entry)
+    → texts index ≡ t
+    → Keeps judging command texts k e
+    → NoOther e
+    → Adds judging command texts e (pairAt t (At at)) r
+
+-- the path was added that a command pattern alone waits for
+abbrev pub AddsPathAlone : ℕ → List ℕ → Kept → Added → Type 0
+AddsPathAlone index t k r =
+    (judging : Bool) (command : List ℕ) (texts : ℕ → List ℕ) (e : Entry) (es : List (List ℕ))
+    → texts index ≡ t
+    → Keeps judging command texts k e
+    → NoOther e
+    → k .waiting ≡ taken judging command es
+    → Adds judging command texts e (pathField es t) r
+
+-- a field of the rest was added, whatever was kept before: `read` is what it reads as
+abbrev pub AddsRest : Reading Cause FieldRead → Kept → Added → Type 0
+AddsRest read k r =
+    (judging : Bool) (command : List ℕ) (texts : ℕ → List ℕ) (e : Entry)
+    → Keeps judging command texts k e
+    → Adds judging command texts e read r
+
 -- what a whole entry comes to
 abbrev pub outcomeOf : Reading Cause Entry → FieldOutcome
 outcomeOf (fault c) = Fault c
@@ -201,6 +257,14 @@ pub record Sums (global : List ArgumentPattern) (args : List (List ℕ)) (o : Ow
   pub options : optionsIn (o .options) ≡ optionsOf ss
   pub failures : o .failures .at ≡ failures (inForce global (argumentsOf ss)) args
 
+-- settings were added behind those that are kept: `more` are the ones that a text gives
+abbrev pub AddsSettings : (args : List (List ℕ)) (t : List ℕ) (more : List Setting) (old new : Own) → Type 0
+AddsSettings args t more old new =
+    (ps : List ArgumentPattern) (ss : List Setting)
+    → length t ≤ 1024
+    → Sums ps args old ss
+    → Sums ps args new (ss ++ more)
+
 -- what the code's verdict stands for
 abbrev pub verdictIn : List ℕ → Options → CodeVerdict → Verdict
 verdictIn p o Nargs = stoppedByNargs
@@ -208,3 +272,14 @@ verdictIn p o Argument = stoppedByArgument
 verdictIn p o PathLength = stoppedByPath
 verdictIn p o Password = password p o
 verdictIn p o Permit = permit p o
+
+-- the verdict on every question that has so many arguments and this age, by the patterns that fail and whether its path fits
+abbrev pub GivesVerdict : Options → (failing : List Bool) → ℕ → Filled → LastAuthentication → CodeVerdict → Type 0
+GivesVerdict o failing arguments path last r =
+    (q : Question) (ps : List ArgumentPattern) (p : List ℕ)
+    → length (q .args) ≤ 64
+    → arguments ≡ length (q .args)
+    → last ≡ q .age
+    → failing ≡ failures ps (q .args)
+    → path ≡ filledTo 1024 (length p)
+    → verdictIn p o r ≡ verdictOn q o ps p

@@ -20,18 +20,17 @@ use text::slice::find_pair;
 ghost use mathlib.Core.Path.{_≡_};
 ghost use mathlib.Core.Bool.{Bool, true, _&&_};
 ghost use mathlib.Core.List.{List};
-ghost use mathlib.Core.Option.{Option, none, some};
+ghost use mathlib.Core.Option.{none, some};
 ghost use Prim.Native.Nat.{ℕ, _+_, _≤_};
-ghost use lib.Dec.{leb};
-ghost use lib.ListN.{length, drop};
-ghost use Rattle.fault.specs.Fault.{value, require};
+ghost use lib.ListN.{length};
+ghost use Rattle.fault.specs.Fault.{value};
 ghost use Rattle.options.specs.Contract.{settingIn};
 ghost use Rattle.question.specs.Contract.{stringsIn};
-ghost use Rattle.condition.specs.Condition.{Sort, judgeOf};
-ghost use Rattle.entry.specs.Field.{Entry as Held, Position as Stand, first, noField, pairAt, commandOf, pathField, optionOr, otherOf, fieldOf};
+ghost use Rattle.condition.specs.Condition.{Judge, judgeOf};
+ghost use Rattle.entry.specs.Field.{Entry as Held, Position as Stand, first, noField, commandOf, optionOr, otherOf};
 ghost use Rattle.entry.specs.Entry.{completed, conditionsAccept};
 ghost use Rattle.entry.specs.Path.{pathFor};
-ghost use Rattle.entry.specs.Contract.{taken, given, pairedWith, waitingWith, restWith, Stands, NoOther, Keeps, Holds, Adds, pathBehind, outcomeOf};
+ghost use Rattle.entry.specs.Contract.{given, pairedWith, waitingWith, restWith, NoOther, Keeps, Holds, Adds, limitedField, AddsField, AddsPath, AddsPair, AddsPathAlone, AddsRest, outcomeOf};
 
 // What is kept of the fields so far.
 pub struct Entry {
@@ -159,7 +158,7 @@ impl Entry {
         next: Position,
     ) -> Added
         requires { ⌜ at ≤ length (now text) ⌝ }
-        ensures { λ r. ⌜ ((j : Bool) (c : List ℕ) (t : ℕ → List ℕ) (e : Held) (es : List (List ℕ)) (q : Stand) → t index ≡ now (text .entry) → Keeps j c t self e → NoOther e → matches ≡ taken j c es → Stands j c (pairedWith self matches index at next) q → Adds j c t e (pathBehind es (drop at (now (text .entry))) q) r) ⌝ }
+        ensures { λ r. ⌜ AddsPath self matches index (now (text .entry)) at next r ⌝ }
     {
         if !is_full_path(&text[at..]) {
             return Added {
@@ -176,7 +175,7 @@ impl Entry {
     // A field with its first `::` at a byte.
     fn add_pair(self, index: usize, text: &[u8], at: usize, judging: bool, command: &[u8]) -> Added
         requires { ⌜ (length (now text) ≤ 1024) × (at + 2 ≤ length (now text)) ⌝ }
-        ensures { λ r. ⌜ ((t : ℕ → List ℕ) (e : Held) → t index ≡ now (text .entry) → Keeps judging (now (command .entry)) t self e → NoOther e → Adds judging (now (command .entry)) t e (pairAt (now (text .entry)) (Found.At at)) r) ⌝ }
+        ensures { λ r. ⌜ AddsPair judging (now (command .entry)) index (now (text .entry)) at self r ⌝ }
     {
         match read_command(&text[..at], judging, command) {
             CommandRead::Fault(cause) => Added {
@@ -211,7 +210,7 @@ impl Entry {
 
     // The path behind a command pattern alone.
     fn add_path(self, index: usize, text: &[u8]) -> Added
-        ensures { λ r. ⌜ ((j : Bool) (c : List ℕ) (t : ℕ → List ℕ) (e : Held) (es : List (List ℕ)) → t index ≡ now (text .entry) → Keeps j c t self e → NoOther e → self .waiting ≡ taken j c es → Adds j c t e (pathField es (now (text .entry))) r) ⌝ }
+        ensures { λ r. ⌜ AddsPathAlone index (now (text .entry)) self r ⌝ }
     {
         match find_pair(text, b':', b':') {
             Found::At(_) => Added {
@@ -235,7 +234,7 @@ impl Entry {
         minute: WeekMinute,
     ) -> Added
         requires { ⌜ length (now text) ≤ 1024 ⌝ }
-        ensures { λ r. ⌜ ((j : Bool) (c : List ℕ) (t : ℕ → List ℕ) (e : Held) → Keeps j c t self e → Adds j c t e (optionOr (judgeOf (now (user .entry)) (stringsIn (now (groups .entry))) (now (host .entry)) (minute .0)) (now (text .entry)) none) r) ⌝ }
+        ensures { λ r. ⌜ AddsRest (optionOr (judgeOf (now (user .entry)) (stringsIn (now (groups .entry))) (now (host .entry)) (minute .0)) (now (text .entry)) none) self r ⌝ }
     {
         let users = self.users;
         let times = self.times;
@@ -258,7 +257,7 @@ impl Entry {
 
     // An option that was read.
     fn add_option(self, text: &[u8], setting: OptionSetting) -> Added
-        ensures { λ r. ⌜ ((j : Bool) (c : List ℕ) (t : ℕ → List ℕ) (e : Held) (judge : Sort → List ℕ → Option Bool) (v : List ℕ) → Keeps j c t self e → Adds j c t e (optionOr judge (now (text .entry)) (some (value (settingIn v setting)))) r) ⌝ }
+        ensures { λ r. ⌜ ((judge : Judge) (v : List ℕ) → AddsRest (optionOr judge (now (text .entry)) (some (value (settingIn v setting)))) self r) ⌝ }
     {
         match find_pair(text, b':', b':') {
             Found::At(_) => Added {
@@ -287,7 +286,7 @@ impl Entry {
         host: &[u8],
     ) -> Added
         requires { ⌜ length (now text) ≤ 1024 ⌝ }
-        ensures { λ r. ⌜ ((j : Bool) (c : List ℕ) (t : ℕ → List ℕ) (e : Held) → Keeps j c t self e → Adds j c t e (otherOf (judgeOf (now (user .entry)) (stringsIn (now (groups .entry))) (now (host .entry)) (minute .0)) (now (text .entry))) r) ⌝ }
+        ensures { λ r. ⌜ AddsRest (otherOf (judgeOf (now (user .entry)) (stringsIn (now (groups .entry))) (now (host .entry)) (minute .0)) (now (text .entry))) self r ⌝ }
     {
         match read_option(text, false) {
             OptionRead::Faulty(cause) => Added {
@@ -311,7 +310,10 @@ impl Entry {
         host: &[u8],
         minute: WeekMinute,
     ) -> Added
-        ensures { λ r. ⌜ ((t : ℕ → List ℕ) (p : Stand) (e : Held) → t index ≡ now (text .entry) → Holds judging (now (command .entry)) t self p e → Adds judging (now (command .entry)) t e (require (leb (length (now (text .entry))) 1024) Cause.FieldLength (fieldOf (judgeOf (now (user .entry)) (stringsIn (now (groups .entry))) (now (host .entry)) (minute .0)) p (now (text .entry)))) r) ⌝ }
+        ensures { λ r. ⌜
+            AddsField judging (now (command .entry)) index (now (text .entry))
+            (limitedField (judgeOf (now (user .entry)) (stringsIn (now (groups .entry))) (now (host .entry)) (minute .0)) (now (text .entry)))
+            self r ⌝ }
     {
         if text.len() > Pattern::BYTES {
             return Added {

@@ -4,16 +4,15 @@ use options::read::OptionRead;
 use options::read::read_option;
 use options::read::value_of;
 use options::set::OptionSet;
-ghost use Prim.Native.Nat.{ℕ, _≤_};
+ghost use Prim.Native.Nat.{ℕ};
 ghost use mathlib.Core.Path.{_≡_};
 ghost use mathlib.Core.Bool.{false};
-ghost use mathlib.Core.List.{List, [], _++_};
-ghost use lib.ListN.{length};
+ghost use mathlib.Core.List.{List, []};
 ghost use Rattle.question.specs.Contract.{stringsIn};
 ghost use Rattle.options.specs.Arguments.{ArgumentPattern};
-ghost use Rattle.options.specs.Read.{Setting, optionOf};
+ghost use Rattle.options.specs.Read.{optionOf};
 ghost use Rattle.options.specs.Contract.{failures as failuresOf};
-ghost use Rattle.entry.specs.Contract.{settingsIn, Sums};
+ghost use Rattle.entry.specs.Contract.{settingsIn, Sums, AddsSettings};
 
 // What the settings so far come to.
 pub struct Own {
@@ -34,7 +33,7 @@ impl Own {
 
     // With one more field of the rest of the entry: what is no option leaves it as it was.
     pub fn add(self, text: &[u8], args: &[u8]) -> Self
-        ensures { λ r. ⌜ ((ps : List ArgumentPattern) (ss : List Setting) → length (now (text .entry)) ≤ 1024 → Sums ps (stringsIn (now (args .entry))) self ss → Sums ps (stringsIn (now (args .entry))) r (ss ++ settingsIn (optionOf false (now (text .entry))))) ⌝ }
+        ensures { λ r. ⌜ AddsSettings (stringsIn (now (args .entry))) (now (text .entry)) (settingsIn (optionOf false (now (text .entry)))) self r ⌝ }
     {
         match read_option(text, false) {
             OptionRead::Faulty(_) => self,

@@ -3,16 +3,8 @@ use options::arguments::Failures;
 use options::set::OptionSet;
 use question::LastAuthentication;
 use text::buffer::Filled;
-ghost use Prim.Native.Nat.{ℕ, _≤_};
-ghost use mathlib.Core.Path.{_≡_};
-ghost use mathlib.Core.List.{List};
-ghost use lib.ListN.{length};
-ghost use Rattle.text.specs.Contract.{filledTo};
-ghost use Rattle.question.specs.Question.{Question};
-ghost use Rattle.options.specs.Arguments.{ArgumentPattern};
-ghost use Rattle.options.specs.Contract.{optionsIn, failures as failuresOf};
-ghost use Rattle.entry.specs.Verdict.{verdictOn};
-ghost use Rattle.entry.specs.Contract.{verdictIn};
+ghost use Rattle.options.specs.Contract.{optionsIn};
+ghost use Rattle.entry.specs.Contract.{GivesVerdict};
 
 pub enum Verdict {
     Nargs,
@@ -30,7 +22,7 @@ pub fn verdict_of(
     path: Filled,
     last: LastAuthentication,
 ) -> Verdict
-    ensures { λ r. ⌜ ((q : Question) (ps : List ArgumentPattern) (p : List ℕ) → length (q .args) ≤ 64 → arguments ≡ length (q .args) → last ≡ q .age → failures .at ≡ failuresOf ps (q .args) → path ≡ filledTo 1024 (length p) → verdictIn p (optionsIn options) r ≡ verdictOn q (optionsIn options) ps p) ⌝ }
+    ensures { λ r. ⌜ GivesVerdict (optionsIn options) (failures .at) arguments path last r ⌝ }
 {
     let nargs = options.nargs();
     if !nargs.allows(arguments) {

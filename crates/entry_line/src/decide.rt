@@ -15,27 +15,16 @@ use text::number::at_most;
 use variables::Variables;
 use variables::field::FieldText;
 use variables::field::field_text;
-ghost use Prim.Native.Nat.{_≤_};
 ghost use mathlib.Core.Path.{_≡_};
-ghost use mathlib.Core.Bool.{true};
-ghost use mathlib.Core.List.{List};
-ghost use mathlib.Core.Option.{some};
-ghost use lib.ListN.{length, take, drop};
+ghost use lib.ListN.{drop};
 ghost use Rattle.text.specs.Contract.{Wrote};
-ghost use Rattle.fault.specs.Fault.{value};
 ghost use Rattle.line.specs.Contract.{fieldsIn};
-ghost use Rattle.question.specs.Question.{Question};
 ghost use Rattle.question.specs.Contract.{stringsIn};
 ghost use Rattle.variables.specs.Contract.{scopeIn};
-ghost use Rattle.options.specs.Arguments.{ArgumentPattern};
-ghost use Rattle.options.specs.Contract.{optionsIn, failures as failuresOf};
+ghost use Rattle.options.specs.Contract.{optionsIn};
 ghost use Rattle.condition.specs.Condition.{judgeOf};
-ghost use Rattle.entry.specs.Field.{Entry as Held};
-ghost use Rattle.entry.specs.Entry.{entryOf, conditionsAccept};
-ghost use Rattle.entry.specs.Path.{pathLimit, starred, pathFor};
-ghost use Rattle.entry.specs.Verdict.{verdictOf};
-ghost use Rattle.entry.specs.Contract.{verdictIn};
-ghost use Rattle.entry_line.specs.Contract.{textsIn, sizeTold};
+ghost use Rattle.entry.specs.Path.{starred};
+ghost use Rattle.entry_line.specs.Contract.{PutsPath, DecidesEntry, sizeTold};
 
 // The verdict, how many bytes its path has, and the options in force.
 pub struct Decided {
@@ -78,7 +67,11 @@ fn path_of<'a, 'b>(
     scratch: &mut [u8; FieldText::BYTES],
     path: &mut [u8; Path::BYTES],
 ) -> Filled
-    ensures { λ r. ⌜ Wrote (now (path .entry)) (now (path .exit)) 0 (starred (now (command .entry)) (drop at (textsIn (scopeIn (now (user .entry)) (now (host .entry)) (now (bytes .entry)) (now (sizes .entry)) names) (fieldsIn (now (text .entry)) (now (ends .entry)) count) index))) r × (length (now (path .entry)) ≡ pathLimit) ⌝ }
+    ensures { λ r. ⌜
+        PutsPath
+        (scopeIn (now (user .entry)) (now (host .entry)) (now (bytes .entry)) (now (sizes .entry)) names)
+        (fieldsIn (now (text .entry)) (now (ends .entry)) count)
+        index at (now (command .entry)) (now (path .entry)) (now (path .exit)) r ⌝ }
 {
     let written = field(text, ends, count, index);
     let FieldText::Text(n) = field_text(bytes, sizes, names, user, host, written, scratch) else {
@@ -112,7 +105,13 @@ pub fn decide<'a, 'b>(
     scratch: &mut [u8; FieldText::BYTES],
     path: &mut [u8; Path::BYTES],
 ) -> Decided
-    ensures { λ r. ⌜ ((q : Question) (ps : List ArgumentPattern) (e : Held) → q .command ≡ now (command .entry) → q .user ≡ now (user .entry) → q .age ≡ last → q .args ≡ stringsIn (now (args .entry)) → length (q .args) ≤ 64 → failures .at ≡ failuresOf ps (q .args) → entryOf (judgeOf (now (user .entry)) (stringsIn (now (groups .entry))) (now (host .entry)) (minute .0)) (scopeIn (now (user .entry)) (now (host .entry)) (now (bytes .entry)) (now (sizes .entry)) names) (drop from (fieldsIn (now (text .entry)) (now (ends .entry)) count)) ≡ value e → pathFor (q .command) (e .pairs) ≡ some (starred (q .command) (drop at (textsIn (scopeIn (now (user .entry)) (now (host .entry)) (now (bytes .entry)) (now (sizes .entry)) names) (fieldsIn (now (text .entry)) (now (ends .entry)) count) index))) → conditionsAccept (q .user) e ≡ true → verdictOf q (optionsIn options) ps e ≡ some (verdictIn (take (r .path) (now (path .exit))) (optionsIn (r .options)) (r .verdict))) ⌝ }
+    ensures { λ r. ⌜
+        DecidesEntry
+        (judgeOf (now (user .entry)) (stringsIn (now (groups .entry))) (now (host .entry)) (minute .0))
+        (scopeIn (now (user .entry)) (now (host .entry)) (now (bytes .entry)) (now (sizes .entry)) names)
+        (fieldsIn (now (text .entry)) (now (ends .entry)) count)
+        from index at (now (command .entry)) (now (user .entry)) last (stringsIn (now (args .entry)))
+        (optionsIn options) (failures .at) (now (path .exit)) r ⌝ }
 {
     let own = own_settings(
         failures,

@@ -9,26 +9,22 @@ use text::number::at_most;
 use variables::Variables;
 use variables::field::FieldText;
 use variables::field::field_text;
-ghost use Prim.Native.Nat.{_≤_};
-ghost use mathlib.Core.Path.{_≡_};
 ghost use mathlib.Core.Bool.{false, cond};
-ghost use mathlib.Core.List.{List, [], _++_};
-ghost use lib.ListN.{length, drop};
-ghost use Rattle.fault.specs.Fault.{value};
+ghost use mathlib.Core.List.{[]};
+ghost use lib.ListN.{drop};
 ghost use Rattle.line.specs.Contract.{fieldsIn};
 ghost use Rattle.question.specs.Contract.{stringsIn};
 ghost use Rattle.variables.specs.Contract.{scopeIn};
-ghost use Rattle.options.specs.Arguments.{ArgumentPattern};
-ghost use Rattle.options.specs.Read.{Setting, optionOf};
-ghost use Rattle.options.specs.Contract.{failures as failuresOf};
-ghost use Rattle.condition.specs.Condition.{Judge};
-ghost use Rattle.entry.specs.Field.{Entry as Held};
-ghost use Rattle.entry.specs.Entry.{entryOf};
-ghost use Rattle.entry.specs.Contract.{Sums, isOther, settingsIn};
+ghost use Rattle.options.specs.Read.{optionOf};
+ghost use Rattle.entry.specs.Contract.{isOther, settingsIn, AddsSettings};
+ghost use Rattle.entry_line.specs.Contract.{OwnSettings};
 
 // The settings with those of one more field, by what it is and its text.
 fn with_text(own: Own, kind: FieldKind, text: &[u8], args: &[u8]) -> Own
-    ensures { λ r. ⌜ ((ps : List ArgumentPattern) (ss : List Setting) → length (now (text .entry)) ≤ 1024 → Sums ps (stringsIn (now (args .entry))) own ss → Sums ps (stringsIn (now (args .entry))) r (ss ++ cond (isOther kind) (settingsIn (optionOf false (now (text .entry)))) [])) ⌝ }
+    ensures { λ r. ⌜
+        AddsSettings (stringsIn (now (args .entry))) (now (text .entry))
+        (cond (isOther kind) (settingsIn (optionOf false (now (text .entry)))) [])
+        own r ⌝ }
 {
     if kind.is_other() {
         return own.add(text, args);
@@ -51,7 +47,11 @@ pub fn own_settings<'a, 'b>(
     names: usize,
     scratch: &mut [u8; FieldText::BYTES],
 ) -> Own
-    ensures { λ r. ⌜ ((judge : Judge) (ps : List ArgumentPattern) (e : Held) → failures .at ≡ failuresOf ps (stringsIn (now (args .entry))) → entryOf judge (scopeIn (now (user .entry)) (now (host .entry)) (now (bytes .entry)) (now (sizes .entry)) names) (drop from (fieldsIn (now (text .entry)) (now (ends .entry)) count)) ≡ value e → Sums ps (stringsIn (now (args .entry))) r (e .settings)) ⌝ }
+    ensures { λ r. ⌜
+        OwnSettings
+        (scopeIn (now (user .entry)) (now (host .entry)) (now (bytes .entry)) (now (sizes .entry)) names)
+        (drop from (fieldsIn (now (text .entry)) (now (ends .entry)) count))
+        (stringsIn (now (args .entry))) (failures .at) r ⌝ }
 {
     let most = at_most(count, ScannedLine::FIELDS);
     let mut own = Own::new(failures);

@@ -16,17 +16,14 @@ ghost use Prim.Native.Nat.{ℕ};
 ghost use mathlib.Core.Path.{_≡_};
 ghost use mathlib.Core.Bool.{true, cond};
 ghost use mathlib.Core.List.{List};
-ghost use lib.ListN.{drop, take};
-ghost use Rattle.fault.specs.Fault.{andThen};
+ghost use lib.ListN.{take};
 ghost use Rattle.line.specs.Contract.{fieldsIn};
 ghost use Rattle.question.specs.Contract.{stringsIn};
-ghost use Rattle.variables.specs.Substitute.{fieldText};
 ghost use Rattle.variables.specs.Contract.{scopeIn, verbatim};
 ghost use Rattle.condition.specs.Condition.{judgeOf};
-ghost use Rattle.entry.specs.Field.{Entry as Held, Position as Stand, fieldOf};
-ghost use Rattle.entry.specs.Entry.{entryOf};
-ghost use Rattle.entry.specs.Contract.{Holds, Adds};
-ghost use Rattle.entry_line.specs.Contract.{textOr, textsIn, TextUnless, Reads, Acting, Acts};
+ghost use Rattle.entry.specs.Field.{Entry as Held, Position as Stand};
+ghost use Rattle.entry.specs.Contract.{Holds};
+ghost use Rattle.entry_line.specs.Contract.{TextUnless, AddsWritten, ReadsEntry, Acting, ActsOn};
 
 // What a line that is an entry comes to.
 pub enum EntryAction {
@@ -76,7 +73,10 @@ fn text_unless<'a>(
     field: &[u8],
     scratch: &mut [u8; FieldText::BYTES],
 ) -> FieldText
-    ensures { λ r. ⌜ TextUnless same (scopeIn (now (user .entry)) (now (host .entry)) (now (bytes .entry)) (now (sizes .entry)) names) (now (field .entry)) (now (scratch .entry)) (now (scratch .exit)) r ⌝ }
+    ensures { λ r. ⌜
+        TextUnless same
+        (scopeIn (now (user .entry)) (now (host .entry)) (now (bytes .entry)) (now (sizes .entry)) names)
+        (now (field .entry)) (now (scratch .entry)) (now (scratch .exit)) r ⌝ }
 {
     if same {
         return FieldText::Text(0);
@@ -102,7 +102,11 @@ fn add_field<'a>(
     scratch: &mut [u8; FieldText::BYTES],
 ) -> Added
     requires { ⌜ (known ≡ true → verbatim (now field) ≡ true) ⌝ }
-    ensures { λ r. ⌜ ((t : ℕ → List ℕ) (p : Stand) (e : Held) → t index ≡ textOr (now (field .entry)) (fieldText (scopeIn (now (user .entry)) (now (host .entry)) (now (bytes .entry)) (now (sizes .entry)) names) (now (field .entry))) → Holds judging (now (command .entry)) t entry p e → Adds judging (now (command .entry)) t e (andThen (fieldText (scopeIn (now (user .entry)) (now (host .entry)) (now (bytes .entry)) (now (sizes .entry)) names) (now (field .entry))) (fieldOf (judgeOf (now (user .entry)) (stringsIn (now (groups .entry))) (now (host .entry)) (minute .0)) p)) r) ⌝ }
+    ensures { λ r. ⌜
+        AddsWritten
+        (judgeOf (now (user .entry)) (stringsIn (now (groups .entry))) (now (host .entry)) (minute .0))
+        (scopeIn (now (user .entry)) (now (host .entry)) (now (bytes .entry)) (now (sizes .entry)) names)
+        judging (now (command .entry)) index (now (field .entry)) entry r ⌝ }
 {
     let same = stays(known, field);
     match text_unless(same, bytes, sizes, names, user, host, field, scratch) {
@@ -135,7 +139,12 @@ fn read_fields<'a, 'b>(
     names: usize,
     scratch: &mut [u8; FieldText::BYTES],
 ) -> Added
-    ensures { λ r. ⌜ Reads judging (now (command .entry)) (textsIn (scopeIn (now (user .entry)) (now (host .entry)) (now (bytes .entry)) (now (sizes .entry)) names) (fieldsIn (now (text .entry)) (now (ends .entry)) count)) (entryOf (judgeOf (now (user .entry)) (stringsIn (now (groups .entry))) (now (host .entry)) (minute .0)) (scopeIn (now (user .entry)) (now (host .entry)) (now (bytes .entry)) (now (sizes .entry)) names) (drop from (fieldsIn (now (text .entry)) (now (ends .entry)) count))) r ⌝ }
+    ensures { λ r. ⌜
+        ReadsEntry
+        (judgeOf (now (user .entry)) (stringsIn (now (groups .entry))) (now (host .entry)) (minute .0))
+        (scopeIn (now (user .entry)) (now (host .entry)) (now (bytes .entry)) (now (sizes .entry)) names)
+        (fieldsIn (now (text .entry)) (now (ends .entry)) count)
+        from judging (now (command .entry)) r ⌝ }
 {
     let most = at_most(count, ScannedLine::FIELDS);
     let reach = start_of(ends, most);
@@ -206,7 +215,12 @@ pub fn read_entry<'a, 'b>(
     names: usize,
     scratch: &mut [u8; FieldText::BYTES],
 ) -> EntryAction
-    ensures { λ r. ⌜ Acts judging (now (command .entry)) (now (user .entry)) (textsIn (scopeIn (now (user .entry)) (now (host .entry)) (now (bytes .entry)) (now (sizes .entry)) names) (fieldsIn (now (text .entry)) (now (ends .entry)) count)) (entryOf (judgeOf (now (user .entry)) (stringsIn (now (groups .entry))) (now (host .entry)) (minute .0)) (scopeIn (now (user .entry)) (now (host .entry)) (now (bytes .entry)) (now (sizes .entry)) names) (drop from (fieldsIn (now (text .entry)) (now (ends .entry)) count))) r ⌝ }
+    ensures { λ r. ⌜
+        ActsOn
+        (judgeOf (now (user .entry)) (stringsIn (now (groups .entry))) (now (host .entry)) (minute .0))
+        (scopeIn (now (user .entry)) (now (host .entry)) (now (bytes .entry)) (now (sizes .entry)) names)
+        (fieldsIn (now (text .entry)) (now (ends .entry)) count)
+        from judging (now (command .entry)) (now (user .entry)) r ⌝ }
 {
     let read = read_fields(
         text,

@@ -7,6 +7,7 @@ use borrow.Author.Tests.{ltb-true, ltb-false}
 use lib.Dec.{T}
 use lib.IntN.{ℤ, pos, negsuc, negℤ, natAbs, _-ℤ_, +ℤ-idl}
 use lib.Signed.{ltZ, nonNeg}
+use Rattle.record.proofs.Ages.{plain-sign}
 use Rattle.figures.specs.Figures.{sumLimit}
 use Rattle.figure_numbers.specs.Numbers.{nearest, sumNumber}
 use mir.Syntax.{Width, w64}
@@ -24,10 +25,6 @@ module _ (limit : ℕ) where
   unfolding nearest
   all-above (pos n) e = let h = ltb-true limit n e in omega arith
   all-above (negsuc n) e = let z : _≡_ {A = ℕ} 0 1 = cc in absurd (omega arith)
-
-  from-zero : (z : ℤ) → ltZ z (pos 0) ≡ false → nonNeg z ≡ true
-  from-zero (pos n) e = refl
-  from-zero (negsuc n) e = cc
 
   at-most : (z : ℤ) → ltZ z (pos 0) ≡ false → ltZ (pos limit) z ≡ false → natAbs z ≤ limit
   at-most (pos n) e f = ltb-false limit n f
@@ -54,7 +51,7 @@ module _ (limit : ℕ) (z : ℤ) (f : SFits w64 z) where
 
   module _ (e : ltZ (toZ w64 (ofZ w64 z)) (pos 0) ≡ false) (g : ltZ (pos limit) (toZ w64 (ofZ w64 z)) ≡ false) where
     pub nearest-casts : (w : Width) → ((n : ℕ) → n ≤ limit → Fits w n) → T (nonNeg (toZ w64 (ofZ w64 z))) × Fits w (natAbs (toZ w64 (ofZ w64 z)))
-    nearest-casts w h = rw back (yes (from-zero limit z (rw back at e)), h (natAbs z) (at-most limit z (rw back at e) (rw back at g)))
+    nearest-casts w h = rw back (yes (plain-sign z (rw back at e)), h (natAbs z) (at-most limit z (rw back at e) (rw back at g)))
 
     pub nearest-is : natAbs (toZ w64 (ofZ w64 z)) ≡ nearest limit z
     nearest-is = rw back (as-it-is limit z (rw back at e) (rw back at g))

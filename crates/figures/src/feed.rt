@@ -51,7 +51,9 @@ impl Totals {
         hours: &mut [u32; Figures::HOURS],
     ) -> Totals
         requires { ⌜ (fields .number ≤ 23) × (fields .minute .0 < weekMinutes) ⌝ }
-        ensures { λ r. ⌜ figuresWith r (now (answers .exit)) (now (weekdays .exit)) (now (hours .exit)) ≡ withFields (figuresWith self (now (answers .entry)) (now (weekdays .entry)) (now (hours .entry))) fields ⌝ }
+        ensures { λ r. ⌜
+            figuresWith r (now (answers .exit)) (now (weekdays .exit)) (now (hours .exit))
+            ≡ withFields (figuresWith self (now (answers .entry)) (now (weekdays .entry)) (now (hours .entry))) fields ⌝ }
     {
         let week_minute = fields.minute;
         let minute = week_minute.0;
@@ -80,7 +82,9 @@ impl Totals {
         weekdays: &mut [u32; Figures::WEEKDAYS],
         hours: &mut [u32; Figures::HOURS],
     ) -> Totals
-        ensures { λ r. ⌜ figuresWith r (now (answers .exit)) (now (weekdays .exit)) (now (hours .exit)) ≡ withRecord (figuresWith self (now (answers .entry)) (now (weekdays .entry)) (now (hours .entry))) (now (bytes .entry)) ⌝ }
+        ensures { λ r. ⌜
+            figuresWith r (now (answers .exit)) (now (weekdays .exit)) (now (hours .exit))
+            ≡ withRecord (figuresWith self (now (answers .entry)) (now (weekdays .entry)) (now (hours .entry))) (now (bytes .entry)) ⌝ }
     {
         match read_record(bytes) {
             Record::Stored(fields) => self.with_fields(fields, answers, weekdays, hours),

@@ -17,6 +17,10 @@ use Rattle.fault.specs.Fault.{Reading, fault, value, andThen}
 use Rattle.fault.specs.declared.Cause.{Cause}
 use Rattle.line.specs.declared.ends.End.{End}
 use Rattle.line.specs.declared.ends.End.the-variants.{At, Cut}
+use Rattle.line.specs.declared.ends.Continuation.{Continuation}
+use Rattle.line.specs.declared.ends.Continuation.the-variants.{Backslash as AfterBackslash, Never}
+use Rattle.line.specs.declared.whole.WholeText.{WholeText}
+use Rattle.line.specs.declared.whole.WholeText.the-variants.{Whole as IsWhole, Long, RefusedAt, CutAt}
 use Rattle.line.specs.declared.counts.Counts.{Counts}
 use Rattle.line.specs.declared.mode.ScanMode.{ScanMode}
 use Rattle.line.specs.declared.mode.ScanMode.the-variants.{Fields, Comment}
@@ -25,7 +29,8 @@ use Rattle.line.specs.declared.run.Run.the-variants.{Blanks, Plain}
 use Rattle.line.specs.declared.scan.ScannedLine.{ScannedLine}
 use Rattle.line.specs.declared.scan.ScannedLine.the-variants.{Good, Fault}
 use Rattle.line.specs.declared.scanner.Scanner.{Scanner}
-use Rattle.line.specs.Line.{Line, line, backslash, newlines, placed, endedLines}
+use Rattle.line.specs.Line.{Line, line, backslash, noByte, newlines, placed, endedLines}
+use Rattle.line.specs.Whole.{TextFault, long, refusedAt, cutAt, Whole, whole}
 use Rattle.line.specs.Joined.{Mode, inFields, inComment, JoinedByte, kept, between, joins, joinedFrom, joinedLine, indented}
 use Rattle.line.specs.Scan.{mostFields, fieldsOf, quotingAtEnd, scanned}
 
@@ -54,10 +59,22 @@ pub record LineEnds (continues : ℕ → Bool) (t : List ℕ) (at e count : ℕ)
   pub counts : count ≡ newlines (take (e - at) (drop at t))
   pub reads : (number : ℕ) → linesFrom continues t at number ≡ line at e number (take (e - 1 - at) (drop at t)) ∷ linesFrom continues t e (number + count)
 
--- where the control line that begins at a place ends, or that there is none that ends
-abbrev pub Ends : List ℕ → ℕ → End → Type 0
-Ends t at (At e count) = LineEnds backslash t at e count
-Ends t at Cut = (number : ℕ) → linesFrom backslash t at number ≡ []
+-- where the line that begins at a place ends, or that there is none that ends
+abbrev pub Ends : (ℕ → Bool) → List ℕ → ℕ → End → Type 0
+Ends continues t at (At e count) = LineEnds continues t at e count
+Ends continues t at Cut = (number : ℕ) → linesFrom continues t at number ≡ []
+
+-- the bytes that continue a line over a newline
+abbrev pub continuesIn : Continuation → ℕ → Bool
+continuesIn AfterBackslash b = backslash b
+continuesIn Never b = noByte b
+
+-- ---- the text as a whole
+abbrev pub wholeIn : WholeText → Reading TextFault Whole
+wholeIn IsWhole = value whole
+wholeIn Long = fault long
+wholeIn (RefusedAt p) = fault (refusedAt p)
+wholeIn (CutAt p) = fault (cutAt p)
 
 -- ---- the line
 abbrev pub modeOf : ScanMode → Mode

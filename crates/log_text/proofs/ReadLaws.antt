@@ -10,6 +10,7 @@ use lib.Seq.{drop-at, length-take-le}
 use Rattle.text.proofs.Laws.{clash}
 use Rattle.streams.specs.Contract.{bytesTold, LoadedIn, countedOn}
 use Rattle.streams.specs.declared.input.Loaded.{Loaded}
+use Rattle.streams.proofs.InputLaws.{same-bytes, no-failure}
 use Rattle.streams.specs.declared.input.Loaded.the-variants.{Bytes, Failed}
 use Rattle.streams.specs.declared.standard_output.Output.{Output}
 use Rattle.log_text.specs.LogText.{linesIn, recordLines, bytesLeft, lastText}
@@ -19,24 +20,18 @@ use Rattle.log_text.proofs.LogLaws.{lines-on, left-on, log-end}
 use Rattle.log_text.proofs.OutputLaws.{counted-then}
 
 -- ---- what a read told
-same-bytes : {l : Loaded} {m n : ℕ} → l ≡ Bytes m → l ≡ Bytes n → m ≡ n
-same-bytes e f = ap bytesTold (sym e ∙ f)
-
-bytes-told : {A : Type 0} {l : Loaded} {n : ℕ} → l ≡ Bytes n → l ≡ Failed → A
-bytes-told {n = n} e f = let z : _≡_ {A = Loaded} Failed (Bytes n) = sym f ∙ e in clash cc
-
 module _ {loaded : Loaded} {begun rest left : List ℕ} {before r : Run} where
   pub serves-failed : loaded ≡ Failed → Fails (before .output) r → Serves loaded begun rest before left r
-  serves-failed e f = record { follows = λ n k h. bytes-told k e; finishes = λ k. bytes-told k e; fails = λ k. f }
+  serves-failed e f = record { follows = λ n k h. no-failure k e; finishes = λ k. no-failure k e; fails = λ k. f }
 
   pub serves-end : {n : ℕ} → loaded ≡ Bytes n → n ≡ 0 → Finishes begun (before .output) r → Serves loaded begun rest before left r
-  serves-end e z f = record { follows = λ m k h. let s = same-bytes e k in absurd (omega arith); finishes = λ k. f; fails = λ k. bytes-told e k }
+  serves-end e z f = record { follows = λ m k h. let s = same-bytes e k in absurd (omega arith); finishes = λ k. f; fails = λ k. no-failure e k }
 
   pub serves-bytes : {n : ℕ} {bytes : List ℕ} → loaded ≡ Bytes n → (n ≡ 0 → ⊥) → bytes ≡ begun ++ take n rest → Follows bytes (before .output) left r → Serves loaded begun rest before left r
   serves-bytes {n} {bytes} e z b f = record {
     follows = λ m k h. subst (λ (x : List ℕ). Follows x (before .output) left r) (b ∙ ap (λ (x : ℕ). begun ++ take x rest) (same-bytes e k)) f;
     finishes = λ k. absurd (z (same-bytes e k));
-    fails = λ k. bytes-told e k;
+    fails = λ k. no-failure e k;
   }
 
 -- ---- bytes read behind others

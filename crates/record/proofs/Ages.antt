@@ -34,7 +34,7 @@ neg-sign (pos zero) e = refl
 neg-sign (pos (suc n)) e = let k = no-minus (suc n) in cc
 neg-sign (negsuc n) e = refl
 
-plain-sign : (z : ℤ) → ltZ z (pos 0) ≡ false → nonNeg z ≡ true
+pub plain-sign : (z : ℤ) → ltZ z (pos 0) ≡ false → nonNeg z ≡ true
 plain-sign (pos n) e = refl
 plain-sign (negsuc n) e = cc
 

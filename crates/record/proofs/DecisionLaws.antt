@@ -16,7 +16,8 @@ use Rattle.question.specs.Question.{Question}
 use Rattle.question.proofs.Told.{question-told, good-told}
 use Rattle.answer.specs.declared.Answer.{Answer}
 use Rattle.answer.specs.declared.Answer.the-variants.{Permit, Password, NoEntry, StoppedByNargs, StoppedByArgument, StoppedByPath, MalformedQuestion, LongTable, RefusedByte, CutShort, RefusedLine, SmallBuffer}
-use Rattle.answer.specs.Answer.{tableLimit, leastBuffer, Outcome, result, grantIn, toldOf, toldBy, decidingLine}
+use Rattle.line.specs.Line.{tableLimit}
+use Rattle.answer.specs.Answer.{leastBuffer, Outcome, result, grantIn, toldOf, toldBy, decidingLine}
 use Rattle.answer.specs.Meaning.{Asked, asks, readTable, answerOf}
 use Rattle.answer.proofs.Answer.{the-type}
 use denote.Enum.Declared.{tagOf}

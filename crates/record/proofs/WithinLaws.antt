@@ -5,14 +5,15 @@ use mathlib.Core.List.{List}
 use mathlib.Core.Option.{Option, none, some, orElse, Option·map}
 use Prim.Native.Nat.{ℕ, _≤_}
 use native.Mathlib.Omega.{arith}
-use borrow.Author.Tests.{leb-true}
 use lib.Dec.{leb}
 use lib.ListN.{length, length-append}
 use Rattle.fault.specs.declared.Cause.{Cause}
 use Rattle.fault.specs.Fault.{Reading, fault, value}
-use Rattle.line.specs.Line.{Line, backslash}
+use Rattle.line.specs.Line.{tableLimit, Line, backslash}
 use Rattle.line.specs.Fold.{Refusal, faulty, cut}
-use Rattle.line.specs.Refused.{refusedByte}
+use Rattle.line.specs.declared.whole.Acceptance.{Acceptance}
+use Rattle.line.specs.declared.whole.Acceptance.the-variants.{Accepted, Long, RefusedAt}
+use Rattle.line.specs.Whole.{acceptanceOf}
 use Rattle.question.specs.Question.{Question}
 use Rattle.options.specs.Options.{Options}
 use Rattle.entry.specs.Verdict.{Verdict, permit, password, stoppedByNargs, stoppedByArgument, stoppedByPath}
@@ -21,8 +22,9 @@ use Rattle.reader.specs.Read.{lineRead}
 use Rattle.reader.proofs.ReadLaws.{line-keeps}
 use Rattle.reader.proofs.ShortIds.{ShortVerdict, ShortDecision, ShortState, short-start, short-keeps}
 use Rattle.reader.proofs.ShortSettings.{ShortIds}
-use Rattle.line.proofs.WithinLaws.{LineWithin, ReadWithin, refused-place, outcome-within}
-use Rattle.answer.specs.Answer.{tableLimit, leastBuffer, result}
+use Rattle.line.proofs.WithinLaws.{LineWithin, ReadWithin, outcome-within}
+use Rattle.line.proofs.WholeLaws.{accepted-short, refused-within}
+use Rattle.answer.specs.Answer.{leastBuffer, result}
 use Rattle.answer.specs.Meaning.{Asked, asks, grantedBy, resolved, settled, linesGive, readBytes, readTable, answerOf}
 use Rattle.answer.specs.declared.Granted.{Granted}
 use Rattle.answer.specs.declared.Answer.{Answer}
@@ -111,15 +113,12 @@ module _ (b : List ℕ) where
 
   table-within : (t : List ℕ) (o : Option Question) → Within tableLimit (readTable t b o .answer)
   table-within t none = tt
-  table-within t (some q) = by (leb (length t) tableLimit) refl
+  table-within t (some q) = by (acceptanceOf t) refl
     where
-      bytes : length t ≤ tableLimit → (p : Option ℕ) → refusedByte t ≡ p → Within tableLimit (readBytes t q b p .answer)
-      bytes h none e = settled-within (length t) (linesGive q t) h (lines-give q t)
-      bytes h (some p) e = omega (arith, refused-place t p e)
-
-      by : (x : Bool) → leb (length t) tableLimit ≡ x → Within tableLimit (cond x (readBytes t q b (refusedByte t)) (result LongTable b) .answer)
-      by true e = bytes (leb-true (length t) tableLimit e) (refusedByte t) refl
-      by false e = tt
+      by : (x : Acceptance) → acceptanceOf t ≡ x → Within tableLimit (readBytes t q b x .answer)
+      by Long e = tt
+      by (RefusedAt p) e = refused-within t e
+      by Accepted e = settled-within (length t) (linesGive q t) (accepted-short t e) (lines-give q t)
 
 -- no answer to a table tells a line, a place or an end above 32,768
 pub answer-within : (t : List ℕ) (a : Asked) (b : List ℕ) → Within tableLimit (answerOf t a b .answer)

@@ -1,5 +1,6 @@
 // The printed line of an answer from a su file, with its newline.
 use console::print::put_refusal;
+use line::whole::WholeText;
 use output::behind::then_all;
 use output::behind::then_decimal;
 use suauth::SuAnswer;
@@ -30,7 +31,7 @@ pub fn put_su_answer(answer: SuAnswer, out: &mut [u8]) -> Filled
         SuAnswer::OwnPassword(line) => put_action(b"ownpass ", line, out),
         SuAnswer::NoRule => put_all(out, 0, b"none\n"),
         SuAnswer::MalformedQuestion => put_refusal(10, 0, out),
-        SuAnswer::LongFile => put_refusal(11, SuAnswer::FILE, out),
+        SuAnswer::LongFile => put_refusal(11, WholeText::BYTES, out),
         SuAnswer::RefusedByte(place) => put_refusal(12, place, out),
         SuAnswer::CutShort(place) => put_refusal(13, place, out),
         SuAnswer::MalformedLine(place) => put_refusal(14, place, out),

@@ -1,21 +1,18 @@
 -- The checks before the lines, in their order. Assumes nothing.
-use mathlib.Core.Path.{_≡_, refl, sym, _∙_}
+use mathlib.Core.Path.{_≡_, refl, sym}
 use mathlib.Core.Bool.{Bool, true, false, cond, _&&_}
 use mathlib.Core.List.{List}
 use mathlib.Core.Option.{Option, none, some, bind}
-use Prim.Native.Nat.{ℕ, _≤_, _<_}
-use borrow.Author.Tests.{le-leb, lt-leb}
-use lib.ListN.{length}
+use Prim.Native.Nat.{ℕ}
 use Rattle.text.proofs.Laws.{clash, both-no}
 use Rattle.question.specs.Question.{stringsOf, mostGroups, userBytes, goodName, goodStrings}
 use Rattle.question.specs.Contract.{whenStrings}
 use Rattle.question.proofs.Forms.{goodGroups}
 use Rattle.question.proofs.ZeroEnded.{strings-in}
-use Rattle.line.specs.Refused.{refusedByte}
-use Rattle.suauth.specs.declared.SuAnswer.{SuAnswer}
-use Rattle.suauth.specs.declared.SuAnswer.the-variants.{MalformedQuestion, LongFile, RefusedByte}
-use Rattle.suauth.specs.Answer.{fileLimit}
-use Rattle.suauth.specs.Meaning.{Question, goodQuestion, ifGood, questionOf, settled, linesGive, answerOf}
+use Rattle.line.specs.declared.whole.Acceptance.{Acceptance}
+use Rattle.line.specs.Whole.{acceptanceOf}
+use Rattle.suauth.specs.declared.SuAnswer.the-variants.{MalformedQuestion}
+use Rattle.suauth.specs.Meaning.{Question, goodQuestion, ifGood, questionOf, readBytes, answerOf}
 use Rattle.suauth.specs.Contract.{asking, questionIn, isQuestion}
 
 -- ---- the question
@@ -68,16 +65,7 @@ module _ (target user groups : List ℕ) where
     unfolding answerOf
     answer-none e = rw (no-question e)
 
-    module _ (g : isQuestion (questionOf (asking target user groups)) ≡ true) where
-      pub answer-long : fileLimit < length t → LongFile ≡ answerOf t (asking target user groups)
-      unfolding answerOf
-      answer-long h = rw (a-question g, lt-leb (length t) fileLimit h)
-
-      module _ (h : length t ≤ fileLimit) where
-        pub answer-byte : {p : ℕ} → some p ≡ refusedByte t → RefusedByte p ≡ answerOf t (asking target user groups)
-        unfolding answerOf
-        answer-byte e = rw (a-question g, le-leb (length t) fileLimit h, ← e)
-
-        pub answer-lines : none ≡ refusedByte t → {r : SuAnswer} → r ≡ settled (linesGive (questionIn target user groups) t) → r ≡ answerOf t (asking target user groups)
-        unfolding answerOf
-        answer-lines e k = k ∙ rw (a-question g, le-leb (length t) fileLimit h, ← e)
+    -- what is read of the file is read by whether it is accepted
+    pub answer-by : isQuestion (questionOf (asking target user groups)) ≡ true → {x : Acceptance} → acceptanceOf t ≡ x → readBytes t (questionIn target user groups) x ≡ answerOf t (asking target user groups)
+    unfolding answerOf
+    answer-by g e = rw (a-question g, e)

@@ -1,26 +1,24 @@
 -- Demand 3: a cut file answers what the whole one says, "no rule", or 13 where the cut line begins. Assumes nothing.
 use mathlib.Core.Path.{_≡_, refl, sym, ap, _∙_}
-use mathlib.Core.Bool.{Bool, true, false, cond}
+use mathlib.Core.Bool.{true, false}
 use mathlib.Core.List.{List}
 use mathlib.Core.Option.{Option, none, some}
 use Prim.Native.Nat.{ℕ, _≤_}
-use native.Mathlib.Omega.{arith}
-use borrow.Author.Tests.{le-leb, leb-true}
-use lib.Dec.{leb}
-use lib.ListN.{length, take, length-take}
+use lib.ListN.{length, take}
 use Rattle.text.proofs.Laws.{clash}
 use Rattle.fault.specs.Fault.{Reading, fault, value}
 use Rattle.line.specs.Line.{noByte}
 use Rattle.line.specs.Fold.{Refusal, faulty, cut}
-use Rattle.line.specs.Refused.{refusedByte}
+use Rattle.line.specs.declared.whole.Acceptance.{Acceptance}
+use Rattle.line.specs.declared.whole.Acceptance.the-variants.{Accepted, Long, RefusedAt}
+use Rattle.line.specs.Whole.{acceptanceOf}
 use Rattle.line.proofs.FoldLaws.{cuts-told}
-use Rattle.line.proofs.RefusedLaws.{clean-cut}
+use Rattle.line.proofs.WholeLaws.{accepted-cut}
 use Rattle.suauth.specs.declared.Action.{Action}
 use Rattle.suauth.specs.declared.Action.the-variants.{Deny, NoPassword, OwnPassword}
 use Rattle.suauth.specs.declared.SuAnswer.{SuAnswer}
-use Rattle.suauth.specs.declared.SuAnswer.the-variants.{LongFile}
 use Rattle.suauth.specs.Rule.{Malformed}
-use Rattle.suauth.specs.Answer.{fileLimit, toldOf, isDecision, saysNoRule, lineTold}
+use Rattle.suauth.specs.Answer.{toldOf, isDecision, saysNoRule, lineTold}
 use Rattle.suauth.specs.Meaning.{Question, Asked, questionOf, Decision, lineRead, linesGive, actionBy, settled, readBytes, readFile, answerOf}
 use Rattle.suauth.specs.Cut.{nothingYet, cutAnswer, CutSafe}
 use Rattle.suauth.specs.Contract.{WholeOf, CutOf}
@@ -33,35 +31,28 @@ no-decision e = clash cc
 record Asks (t : List ℕ) (a : Asked) : Type 0 where
   question : Question
   good : questionOf a ≡ some question
-  size : leb (length t) fileLimit ≡ true
-  bytes : refusedByte t ≡ none
+  accepted : acceptanceOf t ≡ Accepted
 
 asked : (t : List ℕ) (a : Asked) → isDecision (answerOf t a) ≡ true → Asks t a
 unfolding answerOf isDecision toldOf
 asked t a e = good (questionOf a) refl e
   where
-    bytes : (q : Question) → questionOf a ≡ some q → leb (length t) fileLimit ≡ true → (p : Option ℕ) → refusedByte t ≡ p → isDecision (readBytes t q p) ≡ true → Asks t a
-    bytes q g s none h f = record { question = q; good = g; size = s; bytes = h }
-    bytes q g s (some p) h f = no-decision f
-
-    size : (q : Question) → questionOf a ≡ some q → (x : Bool) → leb (length t) fileLimit ≡ x → isDecision (cond x (readBytes t q (refusedByte t)) LongFile) ≡ true → Asks t a
-    size q g true h f = bytes q g h (refusedByte t) refl f
-    size q g false h f = no-decision f
+    bytes : (q : Question) → questionOf a ≡ some q → (x : Acceptance) → acceptanceOf t ≡ x → isDecision (readBytes t q x) ≡ true → Asks t a
+    bytes q g Accepted h f = record { question = q; good = g; accepted = h }
+    bytes q g Long h f = no-decision f
+    bytes q g (RefusedAt p) h f = no-decision f
 
     good : (o : Option Question) → questionOf a ≡ o → isDecision (readFile t o) ≡ true → Asks t a
     good none h f = no-decision f
-    good (some q) h f = size q h (leb (length t) fileLimit) refl f
+    good (some q) h f = bytes q h (acceptanceOf t) refl f
 
 -- then the answer is what the lines give
 read : {t : List ℕ} {a : Asked} (w : Asks t a) → answerOf t a ≡ settled (linesGive (w .question) t)
 unfolding answerOf
-read {t} {a} w = rw (w .good, w .size, w .bytes)
+read {t} {a} w = rw (w .good, w .accepted)
 
 cut-asks : (n : ℕ) {t : List ℕ} {a : Asked} → Asks t a → Asks (take n t) a
-cut-asks n {t} {a} w =
-    let h = leb-true (length t) fileLimit (w .size) in
-    let k : length (take n t) ≤ fileLimit = omega (arith, length-take n t) in
-    record { question = w .question; good = w .good; size = le-leb _ _ k; bytes = clean-cut n t (w .bytes) }
+cut-asks n {t} {a} w = record { question = w .question; good = w .good; accepted = accepted-cut n t (w .accepted) }
 
 -- ---- what a decision tells
 says-rule : (a : Action) (l : ℕ) → saysNoRule (toldOf (actionBy a l)) ≡ false

@@ -1,20 +1,19 @@
 -- Whether a file is refused, and where, depends on no question: two good questions get the same refusal. Assumes nothing.
 use mathlib.Core.Path.{_≡_, refl}
-use mathlib.Core.Bool.{Bool, true, false, not, cond}
+use mathlib.Core.Bool.{Bool, true, false, not}
 use mathlib.Core.List.{List, [], _∷_}
 use mathlib.Core.Option.{Option, none, some, bind, orElse}
 use Prim.Native.Nat.{ℕ}
-use lib.Dec.{leb}
-use lib.ListN.{length}
 use Rattle.text.proofs.Laws.{clash}
 use Rattle.fault.specs.Fault.{Reading, fault, value, andThen, require}
 use Rattle.line.specs.Line.{Line, noByte, linesOf, lastEnd, cutShort}
 use Rattle.line.specs.Fold.{Refusal, cut, located, run, outcome}
-use Rattle.line.specs.Refused.{refusedByte}
+use Rattle.line.specs.declared.whole.Acceptance.{Acceptance}
+use Rattle.line.specs.declared.whole.Acceptance.the-variants.{Accepted, Long, RefusedAt}
+use Rattle.line.specs.Whole.{acceptanceOf}
 use Rattle.suauth.specs.declared.Action.the-variants.{Deny, NoPassword, OwnPassword}
-use Rattle.suauth.specs.declared.SuAnswer.the-variants.{LongFile}
 use Rattle.suauth.specs.Rule.{Rule, Malformed, ruleIn}
-use Rattle.suauth.specs.Answer.{fileLimit, toldOf, isDecision}
+use Rattle.suauth.specs.Answer.{toldOf, isDecision}
 use Rattle.suauth.specs.Meaning.{Question, Asked, questionOf, Decision, decidedBy, lineRead, linesGive, actionBy, settled, readBytes, answerOf}
 
 -- the fault of a reading, if it has one
@@ -61,17 +60,14 @@ decision-told (some d) = by (d .action)
 -- what is refused for one good question is refused for every other, with the same number and place
 pub refusal-alike : (t : List ℕ) (a a′ : Asked) {q q′ : Question} → questionOf a ≡ some q → questionOf a′ ≡ some q′ → isDecision (answerOf t a) ≡ false → answerOf t a′ ≡ answerOf t a
 unfolding answerOf
-refusal-alike t a a′ {q} {q′} e f n = rw (e, f) (size (leb (length t) fileLimit) (rw e at n))
+refusal-alike t a a′ {q} {q′} e f n = rw (e, f) (bytes (acceptanceOf t) (rw e at n))
   where
     lines : (x y : Reading (Refusal Malformed) (Option Decision)) → faultIn x ≡ faultIn y → isDecision (settled x) ≡ false → settled y ≡ settled x
     lines (fault r) (fault s) h k = let z : r ≡ s = cc in rw z
     lines (fault r) (value o) h k = clash cc
     lines (value o) y h k = clash (let z = decision-told o in cc)
 
-    bytes : (p : Option ℕ) → isDecision (readBytes t q p) ≡ false → readBytes t q′ p ≡ readBytes t q p
-    bytes (some p) k = refl
-    bytes none k = lines (linesGive q t) (linesGive q′ t) (lines-alike q q′ t) k
-
-    size : (x : Bool) → isDecision (cond x (readBytes t q (refusedByte t)) LongFile) ≡ false → cond x (readBytes t q′ (refusedByte t)) LongFile ≡ cond x (readBytes t q (refusedByte t)) LongFile
-    size true k = bytes (refusedByte t) k
-    size false k = refl
+    bytes : (x : Acceptance) → isDecision (readBytes t q x) ≡ false → readBytes t q′ x ≡ readBytes t q x
+    bytes Long k = refl
+    bytes (RefusedAt p) k = refl
+    bytes Accepted k = lines (linesGive q t) (linesGive q′ t) (lines-alike q q′ t) k

@@ -1,14 +1,11 @@
 -- What every answer tells: an action by its name with its line, that there is no rule, or a refusal by its number with its place (02 (xiv): "the three actions with their line, or \"no rule\"", "Refusals: 10 to 14, numbers .. as in 01").
 use Prim.Native.Nat.{ℕ}
 use mathlib.Core.Bool.{Bool, true, false}
+use Rattle.line.specs.Line.{tableLimit}
 use Rattle.suauth.specs.declared.Action.{Action}
 use Rattle.suauth.specs.declared.Action.the-variants.{Deny, NoPassword, OwnPassword}
 use Rattle.suauth.specs.declared.SuAnswer.{SuAnswer}
 use Rattle.suauth.specs.declared.SuAnswer.the-variants.{Deny as DenyBy, NoPassword as NoPasswordBy, OwnPassword as OwnPasswordBy, NoRule, MalformedQuestion, LongFile, RefusedByte, CutShort, MalformedLine}
-
--- the most bytes of a file, as of a table (01)
-abbrev pub fileLimit : ℕ
-fileLimit = 32768
 
 -- an answer as 02 tells it
 pub data Told : Type 0 where
@@ -23,7 +20,7 @@ toldOf (NoPasswordBy l) = acts NoPassword l
 toldOf (OwnPasswordBy l) = acts OwnPassword l
 toldOf NoRule = noRule
 toldOf MalformedQuestion = refused 10 0
-toldOf LongFile = refused 11 fileLimit
+toldOf LongFile = refused 11 tableLimit
 toldOf (RefusedByte p) = refused 12 p
 toldOf (CutShort p) = refused 13 p
 toldOf (MalformedLine p) = refused 14 p

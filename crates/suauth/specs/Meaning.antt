@@ -3,8 +3,6 @@ use Prim.Native.Nat.{ℕ}
 use mathlib.Core.Bool.{Bool, true, not, cond, _&&_}
 use mathlib.Core.List.{List, [], _∷_}
 use mathlib.Core.Option.{Option, none, some, bind, orElse}
-use lib.Dec.{leb}
-use lib.ListN.{length}
 use Rattle.text.specs.Lists.{any}
 use Rattle.text.specs.Slice.{same}
 use Rattle.fault.specs.Fault.{Reading, fault, value, andThen}
@@ -12,12 +10,14 @@ use Rattle.question.specs.Question.{stringsOf, userBytes, mostGroups, goodName,
 use Rattle.line.specs.Line.{Line, noByte}
 use Rattle.line.specs.Fold.{Refusal, faulty, cut, outcome}
 use Rattle.line.specs.Refused.{refusedByte}
+use Rattle.line.specs.declared.whole.Acceptance.{Acceptance}
+use Rattle.line.specs.declared.whole.Acceptance.the-variants.{Accepted, Long, RefusedAt}
+use Rattle.line.specs.Whole.{acceptanceOf}
 use Rattle.suauth.specs.declared.Action.{Action}
 use Rattle.suauth.specs.declared.Action.the-variants.{Deny, NoPassword, OwnPassword}
 use Rattle.suauth.specs.declared.SuAnswer.{SuAnswer}
 use Rattle.suauth.specs.declared.SuAnswer.the-variants.{Deny as DenyBy, NoPassword as NoPasswordBy, OwnPassword as OwnPasswordBy, NoRule, MalformedQuestion, LongFile, RefusedByte, CutShort, MalformedLine}
-use Rattle.suauth.specs.Rule.{Names, Ids, everyone, those, allExcept, Rule, Malformed, malformed, ruleIn}
-use Rattle.suauth.specs.Answer.{fileLimit}
+use Rattle.suauth.specs.Rule.{Names, Ids, everyone, those, allExcept, Rule, Malformed, ruleIn}
 
 -- ---- the question
 -- what is asked, as lists of bytes
@@ -102,15 +102,16 @@ settled (fault (cut p)) = CutShort p
 settled (value none) = NoRule
 settled (value (some d)) = actionBy (d .action) (d .line)
 
--- 12 (first such byte), then lines in order
-abbrev pub readBytes : List ℕ → Question → Option ℕ → SuAnswer
-readBytes t q (some p) = RefusedByte p
-readBytes t q none = settled (linesGive q t)
+-- 11, then 12 (first such byte), then lines in order
+abbrev pub readBytes : List ℕ → Question → Acceptance → SuAnswer
+readBytes t q Long = LongFile
+readBytes t q (RefusedAt p) = RefusedByte p
+readBytes t q Accepted = settled (linesGive q t)
 
--- 10, then 11
+-- 10 first
 abbrev pub readFile : List ℕ → Option Question → SuAnswer
 readFile t none = MalformedQuestion
-readFile t (some q) = cond (leb (length t) fileLimit) (readBytes t q (refusedByte t)) LongFile
+readFile t (some q) = readBytes t q (acceptanceOf t)
 
 -- the rulings on 02: "Order: 10, 11, 12, then lines in order, the first faulty one; a cut line last"
 unfoldable pub answerOf : List ℕ → Asked → SuAnswer

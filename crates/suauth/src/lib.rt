@@ -5,13 +5,13 @@ mod names; // a list of names
 mod rule; // one line
 mod trim; // the blanks at a line's two ends
 
-use line::refused::refused_byte;
+use line::whole::Acceptance;
+use line::whole::acceptance_of;
 use lines::read_lines;
 use question::User;
 use question::form::Listed;
 use question::form::name_is_good;
 use question::form::strings_are_good;
-use text::slice::Found;
 ghost use mathlib.Core.Path.{_≡_};
 ghost use Rattle.suauth.specs.Meaning.{questionOf, answerOf};
 ghost use Rattle.suauth.specs.Contract.{asking, isQuestion, WholeOf, CutOf};
@@ -39,11 +39,6 @@ pub enum SuAnswer {
     MalformedLine(usize),
 }
 
-impl SuAnswer {
-    // The most bytes of a file.
-    pub const FILE: usize = 32768;
-}
-
 // Whether the bytes ask a question.
 fn question_is_good(target: &[u8], user: &[u8], groups: &[u8]) -> bool
     ensures { λ r. ⌜ r ≡ isQuestion (questionOf (asking (now (target .entry)) (now (user .entry)) (now (groups .entry)))) ⌝ }
@@ -64,11 +59,9 @@ pub fn su_answer(file: &[u8], target: &[u8], user: &[u8], groups: &[u8]) -> SuAn
     if !question_is_good(target, user, groups) {
         return SuAnswer::MalformedQuestion;
     }
-    if file.len() > SuAnswer::FILE {
-        return SuAnswer::LongFile;
-    }
-    match refused_byte(file) {
-        Found::At(place) => SuAnswer::RefusedByte(place),
-        Found::Nothing => read_lines(file, target, user, groups),
+    match acceptance_of(file) {
+        Acceptance::Long => SuAnswer::LongFile,
+        Acceptance::RefusedAt(place) => SuAnswer::RefusedByte(place),
+        Acceptance::Accepted => read_lines(file, target, user, groups),
     }
 }

@@ -3,7 +3,7 @@ use mathlib.Core.Path.{_≡_}
 use Prim.Native.Nat.{ℕ, _≤_, min}
 use native.Mathlib.Omega.{arith}
 use lib.IntN.{pos}
-use Rattle.answer.specs.Answer.{tableLimit}
+use Rattle.line.specs.Line.{tableLimit}
 use Rattle.supertab_c.specs.Report.{most, counted}
 
 -- each of them is at most 32,768 (laws `answer-within` of `record` and `su-small`)

@@ -7,7 +7,8 @@ use borrow.Author.Tests.{eq-eqb, ne-eqb}
 use lib.IntN.{ℤ}
 use lib.ListN.{length, set}
 use Rattle.suauth.specs.declared.SuAnswer.{SuAnswer}
-use Rattle.suauth.specs.Answer.{fileLimit, toldOf}
+use Rattle.line.specs.Line.{tableLimit}
+use Rattle.suauth.specs.Answer.{toldOf}
 use Rattle.suauth.specs.Meaning.{Asked, answerOf}
 use Rattle.supertab_c.specs.declared.su.SuTold.{SuTold}
 use Rattle.supertab_c.specs.Report.{counted}
@@ -27,5 +28,5 @@ module _ (file : List ℕ) (a : Asked) (r : List ℤ) where
   pub su-told : {x : SuAnswer} {t : SuTold} {z : ℤ} → (length r ≡ 0 → ⊥) → x ≡ answerOf file a → t ≡ suTold (toldOf x) → z ≡ counted (t .value) → suCalled (t .number) (set r 0 z) ≡ suCall file a r
   unfolding suCall
   su-told {x} {t} {z} h e f k =
-      let m : t .value ≤ fileLimit = rw (f, e) (su-small file a) in
+      let m : t .value ≤ tableLimit = rw (f, e) (su-small file a) in
       rw (ne-eqb (length r) 0 h, ← e, ← f, first-set r z (omega arith), k, counted-plain (t .value) m)

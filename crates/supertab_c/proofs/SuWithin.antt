@@ -5,21 +5,21 @@ use mathlib.Core.List.{List}
 use mathlib.Core.Option.{Option, none, some, bind, orElse}
 use Prim.Native.Nat.{ℕ, _≤_}
 use native.Mathlib.Omega.{arith}
-use borrow.Author.Tests.{leb-true}
-use lib.Dec.{leb}
 use lib.ListN.{length}
 use Rattle.fault.specs.Fault.{Reading, fault, value, andThen}
 use Rattle.fault.proofs.Readings.{never, same-value}
-use Rattle.line.specs.Line.{Line, noByte}
+use Rattle.line.specs.Line.{tableLimit, Line, noByte}
 use Rattle.line.specs.Fold.{Refusal, faulty, cut}
-use Rattle.line.specs.Refused.{refusedByte}
-use Rattle.line.proofs.WithinLaws.{LineWithin, ReadWithin, refused-place, outcome-within}
+use Rattle.line.specs.declared.whole.Acceptance.{Acceptance}
+use Rattle.line.specs.declared.whole.Acceptance.the-variants.{Accepted, Long, RefusedAt}
+use Rattle.line.specs.Whole.{acceptanceOf}
+use Rattle.line.proofs.WithinLaws.{LineWithin, ReadWithin, outcome-within}
+use Rattle.line.proofs.WholeLaws.{accepted-short, refused-within}
 use Rattle.suauth.specs.declared.Action.{Action}
 use Rattle.suauth.specs.declared.Action.the-variants.{Deny, NoPassword, OwnPassword}
 use Rattle.suauth.specs.declared.SuAnswer.{SuAnswer}
-use Rattle.suauth.specs.declared.SuAnswer.the-variants.{LongFile}
 use Rattle.suauth.specs.Rule.{Rule, Malformed, ruleIn}
-use Rattle.suauth.specs.Answer.{fileLimit, toldOf}
+use Rattle.suauth.specs.Answer.{toldOf}
 use Rattle.suauth.specs.Meaning.{Asked, Question, questionOf, applies, Decision, decidedBy, lineRead, linesGive, actionBy, settled, readBytes, readFile, answerOf}
 use Rattle.supertab_c.specs.Su.{suTold}
 
@@ -53,15 +53,15 @@ lines-within q t = outcome-within noByte (lineRead q) (λ d. d) t (DecidedWithin
 -- ---- the answer
 -- what is told beside an answer's number is at most 32,768
 abbrev Small : SuAnswer → Type 0
-Small a = suTold (toldOf a) .value ≤ fileLimit
+Small a = suTold (toldOf a) .value ≤ tableLimit
 
-action-small : (x : Action) (line : ℕ) → line ≤ fileLimit → Small (actionBy x line)
+action-small : (x : Action) (line : ℕ) → line ≤ tableLimit → Small (actionBy x line)
 unfolding suTold toldOf
 action-small Deny line h = h
 action-small NoPassword line h = h
 action-small OwnPassword line h = h
 
-settled-small : (n : ℕ) (r : Reading (Refusal Malformed) (Option Decision)) → n ≤ fileLimit → ReadWithin n (DecidedWithin n) r → Small (settled r)
+settled-small : (n : ℕ) (r : Reading (Refusal Malformed) (Option Decision)) → n ≤ tableLimit → ReadWithin n (DecidedWithin n) r → Small (settled r)
 unfolding suTold toldOf
 settled-small n (fault (faulty m p)) h k = omega arith
 settled-small n (fault (cut p)) h k = omega arith
@@ -71,16 +71,13 @@ settled-small n (value (some d)) h k = action-small (d .action) (d .line) (omega
 file-small : (t : List ℕ) (o : Option Question) → Small (readFile t o)
 unfolding suTold toldOf
 file-small t none = omega arith
-file-small t (some q) = by (leb (length t) fileLimit) refl
+file-small t (some q) = by (acceptanceOf t) refl
   where
-    bytes : length t ≤ fileLimit → (p : Option ℕ) → refusedByte t ≡ p → Small (readBytes t q p)
-    bytes h none e = settled-small (length t) (linesGive q t) h (lines-within q t)
-    bytes h (some p) e = omega (arith, refused-place t p e)
+    by : (x : Acceptance) → acceptanceOf t ≡ x → Small (readBytes t q x)
+    by Long e = omega arith
+    by (RefusedAt p) e = refused-within t e
+    by Accepted e = settled-small (length t) (linesGive q t) (accepted-short t e) (lines-within q t)
 
-    by : (x : Bool) → leb (length t) fileLimit ≡ x → Small (cond x (readBytes t q (refusedByte t)) LongFile)
-    by true e = bytes (leb-true (length t) fileLimit e) (refusedByte t) refl
-    by false e = omega arith
-
-pub su-small : (t : List ℕ) (a : Asked) → suTold (toldOf (answerOf t a)) .value ≤ fileLimit
+pub su-small : (t : List ℕ) (a : Asked) → suTold (toldOf (answerOf t a)) .value ≤ tableLimit
 unfolding answerOf
 su-small t a = file-small t (questionOf a)

@@ -10,7 +10,7 @@ use Rattle.options.specs.declared.timeout.Timeout.{Timeout}
 use Rattle.options.specs.declared.timeout.Timeout.the-variants.{Unset, Minutes}
 use Rattle.options.specs.declared.span.Span.{Span}
 use Rattle.options.specs.declared.span.Span.the-variants.{Nothing, Between}
-use Rattle.answer.specs.Answer.{tableLimit}
+use Rattle.line.specs.Line.{tableLimit}
 use Rattle.answer.specs.declared.Granted.{Granted}
 use Rattle.answer.specs.declared.Answer.{Answer}
 use Rattle.answer.specs.declared.Answer.the-variants.{Permit, Password, NoEntry, StoppedByNargs, StoppedByArgument, StoppedByPath, MalformedQuestion, LongTable, RefusedByte, CutShort, RefusedLine, SmallBuffer}

@@ -2,6 +2,7 @@
 use answer::Answer;
 use answer::Granted;
 use fault::Cause;
+use line::whole::WholeText;
 use options::span::Span;
 use options::timeout::Timeout;
 ghost use Prim.Native.Nat.{_≤_};
@@ -174,7 +175,7 @@ pub fn numbers_of(answer: Answer) -> [i64; Report::LENGTH]
         Answer::StoppedByArgument(line) => of_place(line, 0),
         Answer::StoppedByPath(line) => of_place(line, 0),
         Answer::MalformedQuestion => of_place(0, 0),
-        Answer::LongTable => of_place(Answer::TABLE, 0),
+        Answer::LongTable => of_place(WholeText::BYTES, 0),
         Answer::RefusedByte(place) => of_place(place, 0),
         Answer::CutShort(place) => of_place(place, 0),
         Answer::RefusedLine(cause, place) => of_place(place, index_of(cause)),

@@ -1,6 +1,7 @@
 // The call for C on su files. Its prototype and its meaning for a user stand in include/supertab.h.
 use super::report::Report;
 use super::report::counted_as;
+use line::whole::WholeText;
 use suauth::SuAnswer;
 use suauth::su_answer;
 ghost use mathlib.Core.Path.{_≡_};
@@ -41,7 +42,7 @@ fn told_by(answer: SuAnswer) -> SuTold
         },
         SuAnswer::LongFile => SuTold {
             number: 11,
-            value: SuAnswer::FILE,
+            value: WholeText::BYTES,
         },
         SuAnswer::RefusedByte(place) => SuTold {
             number: 12,

@@ -30,7 +30,7 @@ use Rattle.variables.specs.declared.field.Referred.{Referred}
 use Rattle.variables.specs.declared.field.Referred.the-variants.{Known, Bad}
 use Rattle.variables.specs.Scope.{Scope, nameText}
 use Rattle.variables.specs.Substitute.{Substitution, substitution, stays, refers, word, bracketed, reference, substituted, fieldText}
-use Rattle.variables.specs.Contract.{upToBad, Substitutes, countTold, Lays, answerFrom, Completes, Writes, Places, referredFrom, takenTold, Refers}
+use Rattle.variables.specs.Contract.{upToBad, Substitutes, countTold, Lays, answerFrom, Completes, Writes, Places, referredFrom, takenTold, Refers, PutsReference}
 use Rattle.variables.proofs.SubstituteLaws.{word-take, behind, Substituted, text-skip, text-plain, text-bad, text-known, text-end, text-whole}
 use Rattle.variables.proofs.StoreLaws.{laid-first}
 use Rattle.variables.specs.declared.field.FieldText.the-variants.{Text, Fault as NoText}
@@ -87,22 +87,22 @@ refers-none taken e = rw e record { answer = refl; bytes = refl }
 
 -- by the place of its name
 module _ (s : Scope) {r : List ℕ} {n : ℕ} {old : List ℕ} where
-  pub refers-missing : Places r Missing → Refers (reference s r) n old old Bad × (takenTold Bad ≤ length r)
+  pub refers-missing : Places r Missing → PutsReference s r n old old Bad
   unfolding laid
-  refers-missing p = (rw (← p .refer s) record { answer = refl; bytes = refl }, omega arith)
+  refers-missing p = record { put = rw (← p .refer s) record { answer = refl; bytes = refl }; within = omega arith }
 
   pub refers-place : {start end taken : ℕ} {new : List ℕ} {a : Referred} → Places r (Name start end taken) →
-      Refers (substitution taken (nameText s (take (end - start) (drop start r)))) n old new a → Refers (reference s r) n old new a × (takenTold a ≤ length r)
-  refers-place {start} {end} {taken} {new} {a} p w = (rw (p .refer s) at w, go (nameText s (take (end - start) (drop start r))) (w .answer))
+      Refers (substitution taken (nameText s (take (end - start) (drop start r)))) n old new a → PutsReference s r n old new a
+  refers-place {start} {end} {taken} {new} {a} p w = record { put = rw (p .refer s) at w; within = go (nameText s (take (end - start) (drop start r))) (w .answer) }
     where
       go : (o : Option (List ℕ)) → a ≡ referredFrom n (substitution taken o) → takenTold a ≤ length r
       go none e = rw e (omega arith)
       go (some t) e = rw e (p .inside .2)
 
 -- of the bytes behind a `$`, as the code hands them on and as the answer is told
-pub refers-rest : (s : Scope) (f : List ℕ) (k : ℕ) {n : ℕ} {old new : List ℕ} {a b : Referred} → a ≡ b → Refers (reference s (take (length f - k) (drop k f))) n old new a × (takenTold a ≤ length (take (length f - k) (drop k f))) →
+pub refers-rest : (s : Scope) (f : List ℕ) (k : ℕ) {n : ℕ} {old new : List ℕ} {a b : Referred} → a ≡ b → PutsReference s (take (length f - k) (drop k f)) n old new a →
     Refers (reference s (drop k f)) n old new b × (takenTold b ≤ length f - k)
-refers-rest s f k e w = let l = length-drop k f in rw (← e) (rw (part-rest k f) at (w .0), omega (arith, rw (part-rest k f) at (w .1), l))
+refers-rest s f k e w = let l = length-drop k f in rw (← e) (rw (part-rest k f) at (w .put), omega (arith, rw (part-rest k f) at (w .within), l))
 
 -- what is known where it is good
 pub refers-told : (o : Option Substitution) {n taken m : ℕ} {old new : List ℕ} → Refers o n old new (Known taken m) → (x : Substitution) × (o ≡ some x) × (x .taken ≡ taken) × Lays old new n (x .text) m

@@ -205,3 +205,8 @@ takenTold Bad = 0
 pub record Refers (o : Option Substitution) (n : ℕ) (old new : List ℕ) (r : Referred) : Type 0 where
   pub answer : r ≡ referredFrom n o
   pub bytes : new ≡ laid old n (textIn o)
+
+-- the same of the reference that some bytes begin with, which takes no more of them than there are
+pub record PutsReference (s : Scope) (rest : List ℕ) (n : ℕ) (old new : List ℕ) (r : Referred) : Type 0 where
+  pub put : Refers (reference s rest) n old new r
+  pub within : takenTold r ≤ length rest

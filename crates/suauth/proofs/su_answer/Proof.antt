@@ -1,10 +1,9 @@
-use mathlib.Core.Path.{sym, ap, _∙_}
+use mathlib.Core.Path.{sym, _∙_}
 use borrow.Author.Tests.{not-true, not-false}
 use borrow.Author.Needs.{needs}
-use Rattle.suauth.proofs.AnswerLaws.{answer-none, answer-long, answer-byte, answer-lines}
+use Rattle.suauth.proofs.AnswerLaws.{answer-none, answer-by}
 use Rattle.suauth.proofs.CutLaws.{promised}
 use Rattle.suauth.specs.Contract.{asking}
-use Rattle.line.specs.Contract.{placeFound}
 use Rattle.suauth.proofs.su_answer.Statement.{statement}
 use Rattle.suauth.proofs.su_answer.Tie as tie
 
@@ -14,26 +13,35 @@ question-is-good-requires c κs = search needs
 returns : tie.Need-returns
 returns c = let a = c .before .before .before .before .before .before .args in promised (a .file .now) (asking (a .target .now) (a .user .now) (a .groups .now)) _ (answer-none (a .target .now) (a .user .now) (a .groups .now) (a .file .now) (sym (c .before .question-is-good .ensures) ∙ not-true _ (c .if1 .taken)))
 
-returns-2 : tie.Need-returns-2
-returns-2 c = let a = c .before .before .before .before .before .before .before .args in promised (a .file .now) (asking (a .target .now) (a .user .now) (a .groups .now)) _ (answer-long (a .target .now) (a .user .now) (a .groups .now) (a .file .now) (sym (c .before .before .question-is-good .ensures) ∙ not-false _ (c .before .if1 .left)) (c .if2 .taken))
-
-refused-byte-requires : tie.Need-refused-byte-requires
-refused-byte-requires c κs = search needs
-
-enum-known-place : tie.Need-enum-known-place
-enum-known-place c = search needs
+acceptance-of-requires : tie.Need-acceptance-of-requires
+acceptance-of-requires c κs = search needs
 
 enum-told : tie.Need-enum-told
 enum-told c = search needs
 
+enum-known-place : tie.Need-enum-known-place
+enum-known-place c = search needs
+
+enum-told-2 : tie.Need-enum-told-2
+enum-told-2 c = search needs
+
 read-lines-requires : tie.Need-read-lines-requires
 read-lines-requires c κs = search needs
 
+returns-2 : tie.Need-returns-2
+returns-2 c =
+    let a = c .before .before .before .before .before .before .before .before .before .args in
+    promised (a .file .now) (asking (a .target .now) (a .user .now) (a .groups .now)) _ (answer-by (a .target .now) (a .user .now) (a .groups .now) (a .file .now) (sym (c .before .before .before .before .question-is-good .ensures) ∙ not-false _ (c .before .before .before .if1 .left)) (sym (c .before .before .acceptance-of .ensures) ∙ c .enum-told .given .1))
+
 returns-3 : tie.Need-returns-3
-returns-3 c = let a = c .before .before .before .before .before .before .before .before .before .before .before .args in promised (a .file .now) (asking (a .target .now) (a .user .now) (a .groups .now)) _ (answer-byte (a .target .now) (a .user .now) (a .groups .now) (a .file .now) (sym (c .before .before .before .before .before .before .question-is-good .ensures) ∙ not-false _ (c .before .before .before .before .before .if1 .left)) (c .before .before .before .before .if2 .left) (ap placeFound (sym (c .before .place .given .1)) ∙ c .before .before .before .refused-byte .ensures))
+returns-3 c =
+    let a = c .before .before .before .before .before .before .before .before .before .before .args in
+    promised (a .file .now) (asking (a .target .now) (a .user .now) (a .groups .now)) _ (answer-by (a .target .now) (a .user .now) (a .groups .now) (a .file .now) (sym (c .before .before .before .before .before .question-is-good .ensures) ∙ not-false _ (c .before .before .before .before .if1 .left)) (sym (c .before .before .before .acceptance-of .ensures) ∙ c .before .place .given .1))
 
 returns-4 : tie.Need-returns-4
-returns-4 c = let a = c .before .before .before .before .before .before .before .before .before .before .before .args in promised (a .file .now) (asking (a .target .now) (a .user .now) (a .groups .now)) _ (answer-lines (a .target .now) (a .user .now) (a .groups .now) (a .file .now) (sym (c .before .before .before .before .before .before .question-is-good .ensures) ∙ not-false _ (c .before .before .before .before .before .if1 .left)) (c .before .before .before .before .if2 .left) (ap placeFound (sym (c .before .enum-told .given .1)) ∙ c .before .before .before .refused-byte .ensures) (c .read-lines .ensures))
+returns-4 c =
+    let a = c .before .before .before .before .before .before .before .before .before .before .args in
+    promised (a .file .now) (asking (a .target .now) (a .user .now) (a .groups .now)) _ (c .read-lines .ensures ∙ answer-by (a .target .now) (a .user .now) (a .groups .now) (a .file .now) (sym (c .before .before .before .before .before .question-is-good .ensures) ∙ not-false _ (c .before .before .before .before .if1 .left)) (sym (c .before .before .before .acceptance-of .ensures) ∙ c .before .enum-told2 .given .1))
 
 pub su-answer-spec : {M : Type 1} → statement M
 su-answer-spec =
@@ -41,10 +49,11 @@ su-answer-spec =
     (tie.spec
     question-is-good-requires
     returns
-    returns-2
-    refused-byte-requires
-    enum-known-place
+    acceptance-of-requires
     enum-told
+    enum-known-place
+    enum-told-2
     read-lines-requires
+    returns-2
     returns-3
     returns-4)

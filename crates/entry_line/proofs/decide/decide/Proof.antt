@@ -26,7 +26,7 @@ size-of-requires c κs = search needs
 returns : tie.Need-returns
 returns c =
     let w = c .before .before .before .before .before .before .path-of .ensures in
-    λ q ps e command user age args few f g path accept. decided q _ ps e (c .before .before .before .before .before .before .before .before .before .own-settings .ensures _ ps e (f ∙ ap (failures ps) args) g) args few (path-written _ command (w .0)) (w .1) (c .before .verdict-of .result) (c .before .before .before .over .ensures) (c .before .before .string-count .ensures) age (c .before .verdict-of .ensures) (c .size-of .ensures) path accept
+    λ q ps e command user age args few f g path accept. decided q _ ps e (c .before .before .before .before .before .before .before .before .before .own-settings .ensures _ ps e (f ∙ ap (failures ps) args) g) args few (path-written _ command (w .wrote)) (w .room) (c .before .verdict-of .result) (c .before .before .before .over .ensures) (c .before .before .string-count .ensures) age (c .before .verdict-of .ensures) (c .size-of .ensures) path accept
 
 pub decide-spec : {M : Type 1} → statement M
 decide-spec =

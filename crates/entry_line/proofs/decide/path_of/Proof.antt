@@ -28,7 +28,7 @@ returns : tie.Need-returns
 returns c =
     let a = c .before .before .before .before .before .before .before .before .before .before .before .args in
     let l : length (a .path .now) ≡ 1024 = search needs in
-    (wrote-as (c .put-from .ensures) (ap (λ t. starred (a .command .now) (drop (a .at) t)) (texts-lost _ (fieldsIn (a .text .now) (a .ends .now) (a .count)) (a .index) (c .before .before .before .before .before .before .field .ensures) (text-fault (c .before .before .before .before .field-text .ensures) (c .before .before .enum-told .given .1)))), l)
+    record { wrote = wrote-as (c .put-from .ensures) (ap (λ t. starred (a .command .now) (drop (a .at) t)) (texts-lost _ (fieldsIn (a .text .now) (a .ends .now) (a .count)) (a .index) (c .before .before .before .before .before .before .field .ensures) (text-fault (c .before .before .before .before .field-text .ensures) (c .before .before .enum-told .given .1)))); room = l }
 
 slice-aggregate-put-from : tie.Need-slice-aggregate-put-from
 slice-aggregate-put-from c = let l : length (c .before .before .before .before .before .before .field-text .last .1 .1 .1 .1 .1 .1 .0) ≡ 1024 = search needs in text-length (c .before .before .before .before .before .before .field-text .ensures) (c .before .before .before .before .n .given .1) l
@@ -40,7 +40,7 @@ returns-2 : tie.Need-returns-2
 returns-2 c =
     let a = c .before .before .before .before .before .before .before .before .before .before .before .before .before .before .before .args in
     let l : length (a .path .now) ≡ 1024 = search needs in
-    (wrote-as (c .put-from2 .ensures) (ap (λ t. starred (a .command .now) (drop (a .at) t)) (texts-told _ (fieldsIn (a .text .now) (a .ends .now) (a .count)) (a .index) (c .before .before .before .before .before .before .before .before .before .before .field .ensures) (text-value (c .before .before .before .before .before .before .before .before .field-text .ensures) (c .before .before .before .before .before .before .n .given .1)))), l)
+    record { wrote = wrote-as (c .put-from2 .ensures) (ap (λ t. starred (a .command .now) (drop (a .at) t)) (texts-told _ (fieldsIn (a .text .now) (a .ends .now) (a .count)) (a .index) (c .before .before .before .before .before .before .before .before .before .before .field .ensures) (text-value (c .before .before .before .before .before .before .before .before .field-text .ensures) (c .before .before .before .before .before .before .n .given .1)))); room = l }
 
 pub path-of-spec : {M : Type 1} → statement M
 path-of-spec =

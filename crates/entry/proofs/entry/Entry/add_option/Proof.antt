@@ -20,10 +20,10 @@ with-rest-requires : tie.Need-with-rest-requires
 with-rest-requires c κs = search needs
 
 returns : tie.Need-returns
-returns c = λ j k t e judge v h. option-late judge _ _ _ (sym (c .before .before .find-pair .ensures) ∙ c .enum-told .given .1)
+returns c = λ judge v j k t e h. option-late judge _ _ _ (sym (c .before .before .find-pair .ensures) ∙ c .enum-told .given .1)
 
 returns-2 : tie.Need-returns-2
-returns-2 c = λ j k t e judge v h. option-added judge _ _ _ _ (sym (c .before .before .before .before .before .before .before .find-pair .ensures) ∙ c .before .before .before .before .before .enum-told2 .given .1) h (c .before .add .ensures v) (c .with-rest .ensures)
+returns-2 c = λ judge v j k t e h. option-added judge _ _ _ _ (sym (c .before .before .before .before .before .before .before .find-pair .ensures) ∙ c .before .before .before .before .before .enum-told2 .given .1) h (c .before .add .ensures v) (c .with-rest .ensures)
 
 pub add-option-spec : {M : Type 1} → statement M
 add-option-spec =

@@ -28,7 +28,7 @@ returns : tie.Need-returns
 returns c = λ j k t e h. other-as _ _ (rw (c .before .cause .given .1) at (c .before .before .before .read-option .ensures)) (record { adds = refl })
 
 returns-2 : tie.Need-returns-2
-returns-2 c = λ j k t e h. other-as _ _ (rw (c .before .before .setting .given .1) at (c .before .before .before .before .read-option .ensures)) (c .add-option .ensures j k t e (judgeOf (c .before .before .before .before .before .before .before .before .before .args .user .now) (stringsIn (c .before .before .before .before .before .before .before .before .before .args .groups .now)) (c .before .before .before .before .before .before .before .before .before .args .host .now) (c .before .before .before .before .before .before .before .before .before .args .minute .0)) _ h)
+returns-2 c = λ j k t e h. other-as _ _ (rw (c .before .before .setting .given .1) at (c .before .before .before .before .read-option .ensures)) (c .add-option .ensures (judgeOf (c .before .before .before .before .before .before .before .before .before .args .user .now) (stringsIn (c .before .before .before .before .before .before .before .before .before .args .groups .now)) (c .before .before .before .before .before .before .before .before .before .args .host .now) (c .before .before .before .before .before .before .before .before .before .args .minute .0)) _ j k t e h)
 
 returns-3 : tie.Need-returns-3
 returns-3 c = λ j k t e h. other-as _ _ (rw (c .before .enum-told .given .1) at (c .before .before .before .read-option .ensures)) (c .add-condition .ensures j k t e h)
