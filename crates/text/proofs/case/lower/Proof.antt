@@ -1,8 +1,8 @@
 use borrow.Author.Tests.{le-leb, lt-leb}
 use borrow.Author.Needs.{needs}
-use Rattle.times.specs.Day.{lowerOf}
-use Rattle.times.proofs.day.lower.Statement.{statement}
-use Rattle.times.proofs.day.lower.Tie as tie
+use Rattle.text.specs.Case.{lowerOf}
+use Rattle.text.proofs.case.lower.Statement.{statement}
+use Rattle.text.proofs.case.lower.Tie as tie
 
 returns : tie.Need-returns
 unfolding lowerOf
