@@ -5,14 +5,13 @@ use super::prefix::Asks;
 use super::prefix::prefix_of;
 use super::rightmost::Rightmost;
 use fault::Cause;
-use pattern::Expanded;
+use matching::field::Expanded;
+use matching::field::read_pattern_field;
 use pattern::Pattern;
 use pattern::Syntax;
 use pattern::alternatives::Alternative;
 use pattern::alternatives::alternative_at;
 use pattern::alternatives::put_alternative;
-use pattern::reader::read_expansions;
-use pattern::whole::is_flat;
 use question::WeekMinute;
 use text::buffer::Filled;
 use text::slice::Found;
@@ -266,11 +265,9 @@ fn add_alternatives(
     ensures { λ r. ⌜ r ≡ addedBy kept (alternativesOf (judgeBy judging (now (user .entry)) (now (groups .entry)) (now (host .entry)) (minute .0)) negated (sortIn asks) (now (p .entry))) ⌝ }
 {
     let syntax = kind_for(asks);
-    if is_flat(syntax, p) {
-        return add_one(minute, asks, negated, judging, p, user, groups, host, kept);
-    }
-    match read_expansions(syntax, p) {
+    match read_pattern_field(syntax, p) {
         Expanded::Fault(cause) => Added::Fault(cause),
+        Expanded::Flat => add_one(minute, asks, negated, judging, p, user, groups, host, kept),
         Expanded::Number(_) => add_all(
             syntax,
             minute,

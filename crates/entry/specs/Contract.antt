@@ -10,7 +10,7 @@ use Rattle.text.specs.declared.slice.Found.{Found}
 use Rattle.text.specs.declared.slice.Found.the-variants.{At, Nothing}
 use Rattle.fault.specs.Fault.{Reading, fault, value, andThen}
 use Rattle.fault.specs.declared.Cause.{Cause}
-use Rattle.glob.specs.Match.{matchesSome}
+use Rattle.matching.specs.Whole.{matchesSome}
 use Rattle.options.specs.Options.{Options}
 use Rattle.options.specs.Arguments.{ArgumentPattern, inForce}
 use Rattle.options.specs.Read.{Setting, optionsOf, argumentsOf}

@@ -63,8 +63,3 @@ matchTokens (byteOf t ∷ p) s = oneByte (inSet negates t) (matchTokens p) s
 unfoldable pub matches : List ℕ → List ℕ → Bool
 unfolding tokens matchTokens
 matches p s = matchTokens (tokens p) s
-
--- 01: a pattern matches exactly if one of its brace-free expansions does
-unfoldable pub matchesSome : List (List ℕ) → List ℕ → Bool
-unfolding any matches
-matchesSome es s = any (λ e. matches e s) es
