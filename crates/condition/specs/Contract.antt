@@ -9,7 +9,7 @@ use Rattle.fault.specs.Fault.{Reading, fault, value}
 use Rattle.fault.specs.declared.Cause.{Cause}
 use Rattle.question.specs.Contract.{stringsIn}
 use Rattle.glob.specs.Match.{matches}
-use Rattle.glob.specs.Alternative.{Alternative}
+use Rattle.matching.specs.Alternative.{Alternative}
 use Rattle.condition.specs.declared.rightmost.Rightmost.{Rightmost}
 use Rattle.condition.specs.declared.prefix.Asks.{Asks}
 use Rattle.condition.specs.declared.prefix.Asks.the-variants.{User, Group, Time}

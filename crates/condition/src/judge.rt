@@ -1,7 +1,7 @@
 // One alternative of a condition: whether it has a good form, and whether it applies.
 use super::prefix::Asks;
-use glob::alternative::Parted;
-use glob::alternative::part;
+use matching::alternative::Parted;
+use matching::alternative::part;
 use matching::matcher::matches_one;
 use question::WeekMinute;
 use question::strings::string_end;
@@ -13,7 +13,7 @@ ghost use mathlib.Core.Option.{Option·map};
 ghost use Rattle.text.specs.Lists.{any};
 ghost use Rattle.question.specs.Contract.{stringsIn};
 ghost use Rattle.glob.specs.Match.{matches};
-ghost use Rattle.glob.specs.Alternative.{alternativeOf};
+ghost use Rattle.matching.specs.Alternative.{alternativeOf};
 ghost use Rattle.times.specs.Item.{itemOf, itemMatches};
 ghost use Rattle.condition.specs.Contract.{sortIn, judgementIn, judgementOf, judgeBy, nameApplies, appliesBy, asksTime};
 

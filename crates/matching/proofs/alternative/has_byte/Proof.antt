@@ -1,9 +1,9 @@
 use mathlib.Core.Path.{sym, _∙_}
 use borrow.Author.Needs.{needs}
 use Rattle.text.proofs.Slices.{byte-none}
-use Rattle.glob.proofs.AlternativeLaws.{there}
-use Rattle.glob.proofs.alternative.has_byte.Statement.{statement}
-use Rattle.glob.proofs.alternative.has_byte.Tie as tie
+use Rattle.matching.proofs.AlternativeLaws.{there}
+use Rattle.matching.proofs.alternative.has_byte.Statement.{statement}
+use Rattle.matching.proofs.alternative.has_byte.Tie as tie
 
 find-byte-requires : tie.Need-find-byte-requires
 find-byte-requires c κs = search needs

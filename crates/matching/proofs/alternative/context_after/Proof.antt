@@ -1,8 +1,8 @@
 use borrow.Author.Needs.{needs}
-use Rattle.glob.proofs.AlternativeLaws.{context-escape, context-set, context-free, context-out, context-in}
-use Rattle.glob.proofs.alternative.context_after.Statement.{statement}
-use Rattle.glob.specs.Alternative.{contextAfter}
-use Rattle.glob.proofs.alternative.context_after.Tie as tie
+use Rattle.matching.proofs.AlternativeLaws.{context-escape, context-set, context-free, context-out, context-in}
+use Rattle.matching.proofs.alternative.context_after.Statement.{statement}
+use Rattle.matching.specs.Alternative.{contextAfter}
+use Rattle.matching.proofs.alternative.context_after.Tie as tie
 
 enum-told : tie.Need-enum-told
 enum-told c = search needs

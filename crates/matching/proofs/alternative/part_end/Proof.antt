@@ -3,11 +3,11 @@ use Prim.Native.Nat.{ℕ, _-_, _≤_}
 use native.Mathlib.Omega.{arith}
 use borrow.Author.Needs.{needs}
 use lib.ListN.{length}
-use Rattle.glob.specs.Contract.{PartsFrom}
-use Rattle.glob.specs.declared.alternative.ByteContext.the-variants.{Free}
-use Rattle.glob.proofs.AlternativeLaws.{parts-here, parts-end, parts-next}
-use Rattle.glob.proofs.alternative.part_end.Statement.{statement}
-use Rattle.glob.proofs.alternative.part_end.Tie as tie
+use Rattle.matching.specs.Contract.{PartsFrom}
+use Rattle.matching.specs.declared.alternative.ByteContext.the-variants.{Free}
+use Rattle.matching.proofs.AlternativeLaws.{parts-here, parts-end, parts-next}
+use Rattle.matching.proofs.alternative.part_end.Statement.{statement}
+use Rattle.matching.proofs.alternative.part_end.Tie as tie
 
 abbrev Inv-loop : tie.InvT-loop
 Inv-loop a from context₀ i₀ context i = (from ≤ i) × (i ≤ length a) × ((r : ℕ) → PartsFrom context a i r → PartsFrom Free a from r)

@@ -1,7 +1,7 @@
 use borrow.Author.Needs.{needs}
-use Rattle.glob.specs.Alternative.{partsAt}
-use Rattle.glob.proofs.alternative.parts_at.Statement.{statement}
-use Rattle.glob.proofs.alternative.parts_at.Tie as tie
+use Rattle.matching.specs.Alternative.{partsAt}
+use Rattle.matching.proofs.alternative.parts_at.Statement.{statement}
+use Rattle.matching.proofs.alternative.parts_at.Tie as tie
 
 enum-told : tie.Need-enum-told
 enum-told c = search needs

@@ -1,7 +1,7 @@
 use borrow.Author.Needs.{needs}
-use Rattle.glob.proofs.AlternativeLaws.{part-none, part-some}
-use Rattle.glob.proofs.alternative.good_part.Statement.{statement}
-use Rattle.glob.proofs.alternative.good_part.Tie as tie
+use Rattle.matching.proofs.AlternativeLaws.{part-none, part-some}
+use Rattle.matching.proofs.alternative.good_part.Statement.{statement}
+use Rattle.matching.proofs.alternative.good_part.Tie as tie
 
 returns : tie.Need-returns
 returns c = part-none _ (c .if1 .taken)

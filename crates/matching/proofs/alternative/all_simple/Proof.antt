@@ -3,14 +3,14 @@ use borrow.Author.Needs.{needs}
 use Prim.Native.Nat.{_-_, _≤_}
 use lib.ListN.{length, drop}
 use borrow.Author.Tests.{not-false}
-use Rattle.glob.specs.Contract.{SimpleName}
-use Rattle.glob.proofs.AlternativeLaws.{simple-on, simple-end}
+use Rattle.matching.specs.Contract.{SimpleName}
+use Rattle.matching.proofs.AlternativeLaws.{simple-on, simple-end}
 use Rattle.text.proofs.Laws.{clash}
-use Rattle.glob.proofs.alternative.all_simple.Statement.{statement}
-use Rattle.glob.proofs.alternative.all_simple.Tie as tie
-use Rattle.glob.proofs.alternative.all_simple.Reads as reads
-use Rattle.glob.proofs.alternative.all_simple.Lts as lts
-use Rattle.glob.proofs.alternative.is_simple.Reads as is-simple-reads
+use Rattle.matching.proofs.alternative.all_simple.Statement.{statement}
+use Rattle.matching.proofs.alternative.all_simple.Tie as tie
+use Rattle.matching.proofs.alternative.all_simple.Reads as reads
+use Rattle.matching.proofs.alternative.all_simple.Lts as lts
+use Rattle.matching.proofs.alternative.is_simple.Reads as is-simple-reads
 
 abbrev Inv-loop : tie.InvT-loop
 Inv-loop a i₀ i = (i ≤ length a) × (SimpleName (drop i a) → SimpleName a)

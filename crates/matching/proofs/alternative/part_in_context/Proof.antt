@@ -4,9 +4,9 @@ use borrow.Author.Tests.{not-true, not-false}
 use borrow.Author.Needs.{needs}
 use lib.Seq.{length-take-le}
 use Rattle.text.proofs.Laws.{part-rest}
-use Rattle.glob.proofs.AlternativeLaws.{part-colon, part-tilde, part-bad-name, part-name, part-third, part-both, part-bad-host}
-use Rattle.glob.proofs.alternative.part_in_context.Statement.{statement}
-use Rattle.glob.proofs.alternative.part_in_context.Tie as tie
+use Rattle.matching.proofs.AlternativeLaws.{part-colon, part-tilde, part-bad-name, part-name, part-third, part-both, part-bad-host}
+use Rattle.matching.proofs.alternative.part_in_context.Statement.{statement}
+use Rattle.matching.proofs.alternative.part_in_context.Tie as tie
 
 has-byte-requires : tie.Need-has-byte-requires
 has-byte-requires c κs = search needs

@@ -15,11 +15,11 @@ use Rattle.text.specs.Contract.{findByte}
 use Rattle.text.specs.declared.slice.Found.the-variants.{At}
 use Rattle.text.proofs.Lists.{has-at}
 use Rattle.text.proofs.Slices.{byte-at}
-use Rattle.glob.specs.declared.alternative.ByteContext.{ByteContext}
-use Rattle.glob.specs.declared.alternative.ByteContext.the-variants.{Free, Escaped, InSet}
-use Rattle.glob.specs.declared.alternative.Parted.the-variants.{Malformed, Name, NameAtHost}
-use Rattle.glob.specs.Alternative.{contextAfter, partsAt, partedBy, partsOf, goodPart, fromParts, alternativeOf}
-use Rattle.glob.specs.Contract.{partsBy, PartsFrom, Simple, SimpleName, TellsAlternative}
+use Rattle.matching.specs.declared.alternative.ByteContext.{ByteContext}
+use Rattle.matching.specs.declared.alternative.ByteContext.the-variants.{Free, Escaped, InSet}
+use Rattle.matching.specs.declared.alternative.Parted.the-variants.{Malformed, Name, NameAtHost}
+use Rattle.matching.specs.Alternative.{contextAfter, partsAt, partedBy, partsOf, goodPart, fromParts, alternativeOf}
+use Rattle.matching.specs.Contract.{partsBy, PartsFrom, Simple, SimpleName, TellsAlternative}
 use Rattle.text.proofs.Laws.{next}
 
 -- ---- the place behind a byte

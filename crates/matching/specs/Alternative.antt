@@ -6,8 +6,8 @@ use mathlib.Core.Option.{Option, none, some}
 use Rattle.text.specs.Bytes.{byte, is}
 use Rattle.text.specs.Lists.{null, has, onto}
 use Rattle.text.specs.Slice.{headIs}
-use Rattle.glob.specs.declared.alternative.ByteContext.{ByteContext}
-use Rattle.glob.specs.declared.alternative.ByteContext.the-variants.{Free, Escaped, InSet}
+use Rattle.matching.specs.declared.alternative.ByteContext.{ByteContext}
+use Rattle.matching.specs.declared.alternative.ByteContext.the-variants.{Free, Escaped, InSet}
 
 -- the pattern of the name, and that of the host if there is one
 pub record Alternative : Type 0 where

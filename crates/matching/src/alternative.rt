@@ -6,8 +6,8 @@ ghost use mathlib.Core.Bool.{true};
 ghost use Prim.Native.Nat.{_≤_, _<_};
 ghost use lib.ListN.{length};
 ghost use Rattle.text.specs.Lists.{has};
-ghost use Rattle.glob.specs.Alternative.{contextAfter, partsAt, goodPart};
-ghost use Rattle.glob.specs.Contract.{PartsFrom, Simple, SimpleName, TellsAlternative};
+ghost use Rattle.matching.specs.Alternative.{contextAfter, partsAt, goodPart};
+ghost use Rattle.matching.specs.Contract.{PartsFrom, Simple, SimpleName, TellsAlternative};
 
 // Whether the next byte is free, behind a backslash, or in a set.
 pub enum ByteContext {
