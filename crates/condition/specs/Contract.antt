@@ -3,10 +3,17 @@ use Prim.Native.Nat.{ℕ}
 use mathlib.Core.Bool.{Bool, true, false, not, cond, _&&_}
 use mathlib.Core.List.{List, [], _∷_}
 use mathlib.Core.Option.{Option, none, some, Option·map}
-use lib.ListN.{drop}
+use lib.Dec.{leb}
+use lib.ListN.{length, drop}
+use Rattle.text.specs.Limits.{fieldLimit}
 use Rattle.text.specs.Lists.{any}
-use Rattle.fault.specs.Fault.{Reading, fault, value}
+use Rattle.fault.specs.Fault.{Reading, fault, value, readAll, require}
 use Rattle.fault.specs.declared.Cause.{Cause}
+use Rattle.fault.specs.declared.Cause.the-variants.{FieldLength}
+use Rattle.pattern.specs.declared.Syntax.{Syntax}
+use Rattle.pattern.specs.Tree.{patternOf}
+use Rattle.pattern.specs.Contract.{expansionsIn}
+use Rattle.question.specs.declared.WeekMinute.{WeekMinute}
 use Rattle.question.specs.Contract.{stringsIn}
 use Rattle.glob.specs.Match.{matches}
 use Rattle.matching.specs.Alternative.{Alternative}
@@ -22,7 +29,7 @@ use Rattle.condition.specs.declared.judge.Judgement.{Judgement}
 use Rattle.condition.specs.declared.judge.Judgement.the-variants.{Malformed, Applies, Misses}
 use Rattle.condition.specs.Rightmost.{Judged}
 use Rattle.condition.specs.Users.{onHost}
-use Rattle.condition.specs.Condition.{Sort, user, group, time, Prefixed, behindPrefix, Judge, judgeOf, Condition}
+use Rattle.condition.specs.Condition.{Sort, user, group, time, Prefixed, behindPrefix, Judge, judgeOf, alternativeRead, conditionOf, Condition}
 
 -- no alternative so far
 abbrev pub noneKept : Rightmost
@@ -95,6 +102,14 @@ unfoldable pub addedBy : Rightmost → Reading Cause (List Judged) → Added
 addedBy r (fault c) = AddedFault c
 addedBy r (value xs) = Kept (addedAll r xs)
 
+-- what is kept with these expansions of a condition, each judged in turn, or the fault of the first that has one
+abbrev pub addedWith : (judging : Bool) (user groups host : List ℕ) (minute : WeekMinute) (negated : Bool) (asks : Asks) → Rightmost → List (List ℕ) → Added
+addedWith judging u gs h m negated asks kept es = addedBy kept (readAll (alternativeRead (judgeBy judging u gs h (m .0)) negated (sortIn asks)) es)
+
+-- the brace-free expansions of the alternative that begins at a place of a pattern
+abbrev pub expansionsFrom : Syntax → List ℕ → ℕ → List (List ℕ)
+expansionsFrom syntax p at = expansionsIn (patternOf syntax false (drop at p))
+
 -- users and groups are kept together, times apart
 abbrev pub keptFor : Sort → (users times : Rightmost) → Rightmost
 keptFor user us ts = us
@@ -114,3 +129,7 @@ readAdded s (Kept r) = readFor s r
 unfoldable pub conditionRead : (users times : Rightmost) → Reading Cause Condition → ConditionRead
 conditionRead us ts (fault c) = Fault c
 conditionRead us ts (value c) = readFor (c .sort) (addedAll (keptFor (c .sort) us ts) (c .alternatives))
+
+-- what a field's text comes to as a condition, once it is not too long
+abbrev pub conditionTold : (judging : Bool) (user groups host : List ℕ) (minute : WeekMinute) (users times : Rightmost) → List ℕ → ConditionRead
+conditionTold judging u gs h m us ts t = conditionRead us ts (require (leb (length t) fieldLimit) FieldLength (conditionOf (judgeIf judging (judgeOf u (stringsIn gs) h (m .0))) t))

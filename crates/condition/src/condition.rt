@@ -21,17 +21,15 @@ ghost use Prim.Native.Nat.{_≤_};
 ghost use mathlib.Core.Path.{_≡_};
 ghost use mathlib.Core.Bool.{false, not, _||_};
 ghost use mathlib.Core.List.{[], _∷_};
-ghost use lib.Dec.{leb};
 ghost use lib.ListN.{length, drop};
 ghost use Rattle.text.specs.Bytes.{byte};
 ghost use Rattle.text.specs.Lists.{has};
-ghost use Rattle.fault.specs.Fault.{value, readAll, require};
-ghost use Rattle.pattern.specs.Contract.{HasNumber, expansionsIn, Few, AlternativeAt};
+ghost use Rattle.fault.specs.Fault.{value};
+ghost use Rattle.pattern.specs.Contract.{HasNumber, Few, AlternativeAt};
 ghost use Rattle.pattern.specs.Tree.{patternOf, expanded, listOf};
 ghost use Rattle.pattern.specs.Whole.{expansionsOf};
-ghost use Rattle.question.specs.Contract.{stringsIn};
-ghost use Rattle.condition.specs.Condition.{judgeOf, kindFor, causeFor, alternativeRead, alternativesOf, conditionBehind, conditionOf};
-ghost use Rattle.condition.specs.Contract.{sortIn, judgeIf, judgeBy, addedBy, keptFor, readAdded, conditionRead};
+ghost use Rattle.condition.specs.Condition.{kindFor, causeFor, alternativesOf, conditionBehind};
+ghost use Rattle.condition.specs.Contract.{sortIn, judgeBy, addedBy, addedWith, expansionsFrom, keptFor, readAdded, conditionRead, conditionTold};
 
 // What a field's text comes to: a fault, or what is kept of its sort with its alternatives.
 pub enum ConditionRead {
@@ -91,7 +89,7 @@ fn add_one(
     host: &[u8],
     kept: Rightmost,
 ) -> Added
-    ensures { λ r. ⌜ r ≡ addedBy kept (readAll (alternativeRead (judgeBy judging (now (user .entry)) (now (groups .entry)) (now (host .entry)) (minute .0)) negated (sortIn asks)) (now (e .entry) ∷ [])) ⌝ }
+    ensures { λ r. ⌜ r ≡ addedWith judging (now (user .entry)) (now (groups .entry)) (now (host .entry)) minute negated asks kept (now (e .entry) ∷ []) ⌝ }
 {
     match judge(asks, judging, minute, e, user, groups, host) {
         Judgement::Malformed => Added::Fault(cause_for(asks)),
@@ -116,7 +114,7 @@ fn add_braced(
     kept: Rightmost,
 ) -> Added
     requires { ⌜ (length (now p) ≤ 1024) × (at ≤ length (now p)) × HasNumber (patternOf syntax false (drop at (now p))) number × (number ≤ 64) ⌝ }
-    ensures { λ r. ⌜ r ≡ addedBy kept (readAll (alternativeRead (judgeBy judging (now (user .entry)) (now (groups .entry)) (now (host .entry)) (minute .0)) negated (sortIn asks)) (expansionsIn (patternOf syntax false (drop at (now (p .entry)))))) ⌝ }
+    ensures { λ r. ⌜ r ≡ addedWith judging (now (user .entry)) (now (groups .entry)) (now (host .entry)) minute negated asks kept (expansionsFrom syntax (now (p .entry)) at) ⌝ }
 {
     let mut out = [0u8; Pattern::BYTES];
     let mut r = kept;
@@ -168,7 +166,7 @@ fn add_found(
     kept: Rightmost,
 ) -> Added
     requires { ⌜ (length (now p) ≤ 1024) × (at ≤ length (now p)) × Few (listOf syntax false (drop at (now p))) × AlternativeAt (now p) at found (patternOf syntax false (drop at (now p))) ⌝ }
-    ensures { λ r. ⌜ r ≡ addedBy kept (readAll (alternativeRead (judgeBy judging (now (user .entry)) (now (groups .entry)) (now (host .entry)) (minute .0)) negated (sortIn asks)) (expansionsIn (patternOf syntax false (drop at (now (p .entry)))))) ⌝ }
+    ensures { λ r. ⌜ r ≡ addedWith judging (now (user .entry)) (now (groups .entry)) (now (host .entry)) minute negated asks kept (expansionsFrom syntax (now (p .entry)) at) ⌝ }
 {
     match found {
         Alternative::Flat(end) => add_one(
@@ -214,7 +212,7 @@ fn add_all(
     kept: Rightmost,
 ) -> Added
     requires { ⌜ (length (now p) ≤ 1024) × (expanded syntax (now p) ≡ value (expansionsOf syntax (now p))) ⌝ }
-    ensures { λ r. ⌜ r ≡ addedBy kept (readAll (alternativeRead (judgeBy judging (now (user .entry)) (now (groups .entry)) (now (host .entry)) (minute .0)) negated (sortIn asks)) (expansionsOf syntax (now (p .entry)))) ⌝ }
+    ensures { λ r. ⌜ r ≡ addedWith judging (now (user .entry)) (now (groups .entry)) (now (host .entry)) minute negated asks kept (expansionsOf syntax (now (p .entry))) ⌝ }
 {
     let mut r = kept;
     let mut i = 0;
@@ -354,7 +352,7 @@ pub fn read_condition(
     users: Rightmost,
     times: Rightmost,
 ) -> ConditionRead
-    ensures { λ r. ⌜ r ≡ conditionRead users times (require (leb (length (now (text .entry))) 1024) Cause.FieldLength (conditionOf (judgeIf judging (judgeOf (now (user .entry)) (stringsIn (now (groups .entry))) (now (host .entry)) (minute .0))) (now (text .entry)))) ⌝ }
+    ensures { λ r. ⌜ r ≡ conditionTold judging (now (user .entry)) (now (groups .entry)) (now (host .entry)) minute users times (now (text .entry)) ⌝ }
 {
     if text.len() > Pattern::BYTES {
         return ConditionRead::Fault(Cause::FieldLength);
