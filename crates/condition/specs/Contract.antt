@@ -1,5 +1,6 @@
 -- What the code keeps of the alternatives so far, and what its answers say.
-use Prim.Native.Nat.{ℕ}
+use Prim.Native.Nat.{ℕ, _≤_}
+use mathlib.Core.Path.{_≡_}
 use mathlib.Core.Bool.{Bool, true, false, not, cond, _&&_}
 use mathlib.Core.List.{List, [], _∷_}
 use mathlib.Core.Option.{Option, none, some, Option·map}
@@ -11,8 +12,10 @@ use Rattle.fault.specs.Fault.{Reading, fault, value, readAll, require}
 use Rattle.fault.specs.declared.Cause.{Cause}
 use Rattle.fault.specs.declared.Cause.the-variants.{FieldLength}
 use Rattle.pattern.specs.declared.Syntax.{Syntax}
-use Rattle.pattern.specs.Tree.{patternOf}
-use Rattle.pattern.specs.Contract.{expansionsIn}
+use Rattle.pattern.specs.declared.alternatives.Alternative.{Alternative as Found}
+use Rattle.pattern.specs.Tree.{patternOf, listOf, expanded}
+use Rattle.pattern.specs.Whole.{expansionsOf}
+use Rattle.pattern.specs.Contract.{HasNumber, expansionsIn, Few, AlternativeAt}
 use Rattle.question.specs.declared.WeekMinute.{WeekMinute}
 use Rattle.question.specs.Contract.{stringsIn}
 use Rattle.glob.specs.Match.{matches}
@@ -109,6 +112,25 @@ addedWith judging u gs h m negated asks kept es = addedBy kept (readAll (alterna
 -- the brace-free expansions of the alternative that begins at a place of a pattern
 abbrev pub expansionsFrom : Syntax → List ℕ → ℕ → List (List ℕ)
 expansionsFrom syntax p at = expansionsIn (patternOf syntax false (drop at p))
+
+-- a pattern that a field can hold, without a fault
+pub record GoodPattern (syntax : Syntax) (p : List ℕ) : Type 0 where
+  pub short : length p ≤ fieldLimit
+  pub good : expanded syntax p ≡ value (expansionsOf syntax p)
+
+-- what was found at a place of a pattern that a field can hold, with at most 64 expansions from there on
+pub record FoundAt (syntax : Syntax) (p : List ℕ) (at : ℕ) (found : Found) : Type 0 where
+  pub short : length p ≤ fieldLimit
+  pub within : at ≤ length p
+  pub few : Few (listOf syntax false (drop at p))
+  pub told : AlternativeAt p at found (patternOf syntax false (drop at p))
+
+-- an alternative at a place of a pattern that a field can hold, with so many expansions, at most 64
+pub record HasBraces (syntax : Syntax) (p : List ℕ) (at number : ℕ) : Type 0 where
+  pub short : length p ≤ fieldLimit
+  pub within : at ≤ length p
+  pub numbers : HasNumber (patternOf syntax false (drop at p)) number
+  pub few : number ≤ 64
 
 -- users and groups are kept together, times apart
 abbrev pub keptFor : Sort → (users times : Rightmost) → Rightmost

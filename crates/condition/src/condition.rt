@@ -19,17 +19,14 @@ use text::slice::find_byte;
 use text::slice::past_head;
 ghost use Prim.Native.Nat.{_≤_};
 ghost use mathlib.Core.Path.{_≡_};
-ghost use mathlib.Core.Bool.{false, not, _||_};
+ghost use mathlib.Core.Bool.{not, _||_};
 ghost use mathlib.Core.List.{[], _∷_};
-ghost use lib.ListN.{length, drop};
+ghost use lib.ListN.{length};
 ghost use Rattle.text.specs.Bytes.{byte};
 ghost use Rattle.text.specs.Lists.{has};
-ghost use Rattle.fault.specs.Fault.{value};
-ghost use Rattle.pattern.specs.Contract.{HasNumber, Few, AlternativeAt};
-ghost use Rattle.pattern.specs.Tree.{patternOf, expanded, listOf};
 ghost use Rattle.pattern.specs.Whole.{expansionsOf};
 ghost use Rattle.condition.specs.Condition.{kindFor, causeFor, alternativesOf, conditionBehind};
-ghost use Rattle.condition.specs.Contract.{sortIn, judgeBy, addedBy, addedWith, expansionsFrom, keptFor, readAdded, conditionRead, conditionTold};
+ghost use Rattle.condition.specs.Contract.{sortIn, judgeBy, addedBy, addedWith, expansionsFrom, GoodPattern, FoundAt, HasBraces, keptFor, readAdded, conditionRead, conditionTold};
 
 // What a field's text comes to: a fault, or what is kept of its sort with its alternatives.
 pub enum ConditionRead {
@@ -113,7 +110,7 @@ fn add_braced(
     host: &[u8],
     kept: Rightmost,
 ) -> Added
-    requires { ⌜ (length (now p) ≤ 1024) × (at ≤ length (now p)) × HasNumber (patternOf syntax false (drop at (now p))) number × (number ≤ 64) ⌝ }
+    requires { ⌜ HasBraces syntax (now p) at number ⌝ }
     ensures { λ r. ⌜ r ≡ addedWith judging (now (user .entry)) (now (groups .entry)) (now (host .entry)) minute negated asks kept (expansionsFrom syntax (now (p .entry)) at) ⌝ }
 {
     let mut out = [0u8; Pattern::BYTES];
@@ -165,7 +162,7 @@ fn add_found(
     host: &[u8],
     kept: Rightmost,
 ) -> Added
-    requires { ⌜ (length (now p) ≤ 1024) × (at ≤ length (now p)) × Few (listOf syntax false (drop at (now p))) × AlternativeAt (now p) at found (patternOf syntax false (drop at (now p))) ⌝ }
+    requires { ⌜ FoundAt syntax (now p) at found ⌝ }
     ensures { λ r. ⌜ r ≡ addedWith judging (now (user .entry)) (now (groups .entry)) (now (host .entry)) minute negated asks kept (expansionsFrom syntax (now (p .entry)) at) ⌝ }
 {
     match found {
@@ -211,7 +208,7 @@ fn add_all(
     host: &[u8],
     kept: Rightmost,
 ) -> Added
-    requires { ⌜ (length (now p) ≤ 1024) × (expanded syntax (now p) ≡ value (expansionsOf syntax (now p))) ⌝ }
+    requires { ⌜ GoodPattern syntax (now p) ⌝ }
     ensures { λ r. ⌜ r ≡ addedWith judging (now (user .entry)) (now (groups .entry)) (now (host .entry)) minute negated asks kept (expansionsOf syntax (now (p .entry))) ⌝ }
 {
     let mut r = kept;

@@ -25,7 +25,7 @@ enum-told-2 : tie.Need-enum-told-2
 enum-told-2 c = search needs
 
 add-all-requires : tie.Need-add-all-requires
-add-all-requires c κs = (c .before .before .before .before .before .before .before .before .pre, expanded-again _ _ (told-number _ _ _ (rw (c .enum-told2 .given .1) at (c .before .before .read-pattern-field .ensures)) .1))
+add-all-requires c κs = record { short = c .before .before .before .before .before .before .before .before .pre; good = expanded-again _ _ (told-number _ _ _ (rw (c .enum-told2 .given .1) at (c .before .before .read-pattern-field .ensures)) .1) }
 
 returns : tie.Need-returns
 returns c = pattern-fault _ _ _ _ _ _ (c .before .before .before .before .kind-for .ensures) (told-fault _ _ _ (rw (c .before .cause .given .1) at (c .before .before .before .read-pattern-field .ensures)))

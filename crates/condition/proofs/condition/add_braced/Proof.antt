@@ -21,13 +21,13 @@ abbrev μ-loop : tie.MeasureT-loop
 μ-loop syntax minute asks negated judging p at number user groups host out₀ r₀ k₀ out r k = number - k
 
 loop-holds : tie.Need-loop-holds Inv-loop μ-loop
-loop-holds c = (length-replicate {A = ℕ} 1024 0, numbers-are (patternOf (c .before .before .before .before .args .syntax) false (drop (c .before .before .before .before .args .at) (c .before .before .before .before .args .p .now))) _ (c .before .before .before .before .pre .2), refl)
+loop-holds c = let a = c .before .before .before .before .args in (length-replicate {A = ℕ} 1024 0, numbers-are (patternOf (a .syntax) false (drop (a .at) (a .p .now))) _ (c .before .before .before .before .pre .numbers), refl)
 
 slice-aggregate-put-alternative : tie.Need-slice-aggregate-put-alternative Inv-loop μ-loop
 slice-aggregate-put-alternative c = sym (c .before .before .loop .inv .0)
 
 put-alternative-requires : tie.Need-put-alternative-requires Inv-loop μ-loop
-put-alternative-requires c κs = search needs
+put-alternative-requires c κs = let h = c .before .before .before .before .before .before .before .pre in (h .within, h .numbers, h .few, c .before .loop-test .taken)
 
 enum-known-n : tie.Need-enum-known-n Inv-loop μ-loop
 enum-known-n c = search needs
@@ -71,7 +71,8 @@ enum-told c = search needs
 returns-2 : tie.Need-returns-2 Inv-loop μ-loop
 returns-2 c =
     let a = c .before .before .before .before .before .before .before .before .before .before .before .args in
-    absurd (never-full-at (a .syntax) (a .p .now) (a .at) (a .number) (c .before .before .before .before .before .before .loop .k) (c .before .before .before .before .before .before .before .before .before .before .before .pre .2) (c .before .before .before .before .before .loop-test .taken) (c .before .before .before .put-alternative .ensures) (omega (arith, c .before .before .before .before .before .before .before .before .before .before .before .pre .0)) (c .enum-told .given .1))
+    let h = c .before .before .before .before .before .before .before .before .before .before .before .pre in
+    absurd (never-full-at (a .syntax) (a .p .now) (a .at) (a .number) (c .before .before .before .before .before .before .loop .k) (h .numbers) (c .before .before .before .before .before .loop-test .taken) (c .before .before .before .put-alternative .ensures) (omega (arith, h .short)) (c .enum-told .given .1))
 
 returns-3 : tie.Need-returns-3 Inv-loop μ-loop
 returns-3 c =
