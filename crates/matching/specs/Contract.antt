@@ -5,11 +5,13 @@ use mathlib.Core.Bool.{Bool, false, cond}
 use mathlib.Core.List.{List, [], _∷_}
 use mathlib.Core.Option.{Option, none, some}
 use lib.ListN.{length, drop, take}
+use Rattle.text.specs.Limits.{fieldLimit}
 use Rattle.text.specs.Lists.{has}
 use Rattle.fault.specs.Fault.{Reading, fault, value}
 use Rattle.fault.specs.declared.Cause.{Cause}
 use Rattle.pattern.specs.declared.Syntax.{Syntax}
 use Rattle.pattern.specs.Tree.{expanded}
+use Rattle.pattern.specs.Whole.{expansionsOf}
 use Rattle.pattern.specs.Contract.{isFlat}
 use Rattle.matching.specs.Alternative.{Alternative, partsOf, alternativeOf}
 use Rattle.matching.specs.declared.alternative.ByteContext.{ByteContext}
@@ -29,6 +31,18 @@ expandedAs flat (value es) = cond flat Flat (Number (length es))
 -- the pattern of a field, as it is told
 unfoldable pub patternField : Syntax → List ℕ → Expanded
 patternField syntax p = expandedAs (isFlat syntax p) (expanded syntax p)
+
+-- ---- the expansions of a pattern
+
+-- a pattern that a field can hold has so many
+pub record Expands (syntax : Syntax) (p : List ℕ) (number : ℕ) : Type 0 where
+  pub count : number ≡ length (expansionsOf syntax p)
+  pub short : length p ≤ fieldLimit
+
+-- and so a k-th one
+pub record ExpandsTo (syntax : Syntax) (p : List ℕ) (number k : ℕ) : Type 0 where
+  pub expands : Expands syntax p number
+  pub below : k < number
 
 -- ---- an alternative
 

@@ -24,7 +24,7 @@ enum-known-n : tie.Need-enum-known-n
 enum-known-n c = search needs
 
 matches-some-requires : tie.Need-matches-some-requires
-matches-some-requires c κs = (told-count _ _ _ (rw (c .before .n .given .1) at (c .before .before .before .read-pattern-field .ensures)), c .before .before .before .before .if1 .left)
+matches-some-requires c κs = record { count = told-count _ _ _ (rw (c .before .n .given .1) at (c .before .before .before .read-pattern-field .ensures)); short = c .before .before .before .before .if1 .left }
 
 returns-2 : tie.Need-returns-2
 returns-2 c = fault-matches _ _ _ (c .before .before .before .if1 .left) (told-fault _ _ _ (rw (c .enum-told .given .1) at (c .before .before .read-pattern-field .ensures)))
