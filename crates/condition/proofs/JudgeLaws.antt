@@ -9,7 +9,7 @@ use Rattle.text.specs.Lists.{any}
 use Rattle.text.proofs.Laws.{both-no, both-yes, both-assoc, clash}
 use Rattle.question.specs.Contract.{stringsIn}
 use Rattle.glob.specs.Match.{matches}
-use Rattle.glob.specs.Alternative.{alternativeOf}
+use Rattle.matching.specs.Alternative.{alternativeOf}
 use Rattle.times.specs.declared.item.TimeItem.{TimeItem}
 use Rattle.times.specs.Item.{itemOf, itemMatches}
 use Rattle.times.specs.Contract.{itemAnswer}

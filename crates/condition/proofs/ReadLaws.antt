@@ -1,7 +1,7 @@
 -- What a field's text comes to, step by step: its `!`, its prefix and the `=` rule, its pattern.
-use mathlib.Core.Path.{_≡_, refl, sym, ap, _∙_}
+use mathlib.Core.Path.{_≡_, refl}
 use mathlib.Core.Bool.{Bool, true, false, not, cond, _||_}
-use mathlib.Core.List.{List, [], _∷_}
+use mathlib.Core.List.{List}
 use Prim.Native.Nat.{ℕ, _≤_, _<_}
 use borrow.Author.Tests.{le-leb, lt-leb}
 use lib.Dec.{eqb, leb}
@@ -17,8 +17,6 @@ use Rattle.fault.specs.declared.Cause.{Cause}
 use Rattle.fault.specs.declared.Cause.the-variants.{OptionName, FieldLength}
 use Rattle.pattern.specs.declared.Syntax.{Syntax}
 use Rattle.pattern.specs.Tree.{expanded}
-use Rattle.pattern.specs.Whole.{expansionsOf}
-use Rattle.pattern.proofs.WholeLaws.{flat-expanded}
 use Rattle.condition.specs.declared.rightmost.Rightmost.{Rightmost}
 use Rattle.condition.specs.declared.prefix.Prefix.{Prefix}
 use Rattle.condition.specs.declared.condition.Added.{Added}
@@ -43,13 +41,9 @@ module _ (judge : Judge) (negated : Bool) (s : Sort) (p : List ℕ) (r : Rightmo
   unfolding addedBy alternativesOf
   pattern-fault e = rw (← k, e)
 
-  pub pattern-read : {es : List (List ℕ)} → expanded syntax p ≡ value es → addedBy r (readAll (alternativeRead judge negated s) (expansionsOf syntax p)) ≡ addedBy r (alternativesOf judge negated s p)
-  unfolding alternativesOf expansionsOf
+  pub pattern-read : {es : List (List ℕ)} → expanded syntax p ≡ value es → addedBy r (readAll (alternativeRead judge negated s) es) ≡ addedBy r (alternativesOf judge negated s p)
+  unfolding alternativesOf
   pattern-read e = rw (← k, e)
-
-  -- a pattern that is its own only expansion
-  pub pattern-flat : expansionsOf syntax p ≡ p ∷ [] → addedBy r (readAll (alternativeRead judge negated s) (p ∷ [])) ≡ addedBy r (alternativesOf judge negated s p)
-  pattern-flat e = ap (λ es. addedBy r (readAll (alternativeRead judge negated s) es)) (sym e) ∙ pattern-read (flat-expanded syntax p e)
 
 -- ---- behind the `!`
 module _ (judge : Judge) (negated : Bool) (t : List ℕ) (us ts : Rightmost) (p : Prefix) (e : prefixedIn t p ≡ prefixed t) where

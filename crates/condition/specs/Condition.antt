@@ -13,7 +13,7 @@ use Rattle.fault.specs.declared.Cause.the-variants.{Alternative as BadAlternati
 use Rattle.pattern.specs.declared.Syntax.{Syntax}
 use Rattle.pattern.specs.declared.Syntax.the-variants.{Condition as ConditionKind, Time as TimeKind}
 use Rattle.pattern.specs.Tree.{expanded}
-use Rattle.glob.specs.Alternative.{alternativeOf}
+use Rattle.matching.specs.Alternative.{alternativeOf}
 use Rattle.times.specs.Item.{itemOf, itemMatches}
 use Rattle.condition.specs.Rightmost.{Judged, judged}
 use Rattle.condition.specs.Users.{userApplies, groupApplies}

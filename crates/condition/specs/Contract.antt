@@ -1,15 +1,25 @@
 -- What the code keeps of the alternatives so far, and what its answers say.
-use Prim.Native.Nat.{ℕ}
+use Prim.Native.Nat.{ℕ, _≤_}
+use mathlib.Core.Path.{_≡_}
 use mathlib.Core.Bool.{Bool, true, false, not, cond, _&&_}
 use mathlib.Core.List.{List, [], _∷_}
 use mathlib.Core.Option.{Option, none, some, Option·map}
-use lib.ListN.{drop}
+use lib.Dec.{leb}
+use lib.ListN.{length, drop}
+use Rattle.text.specs.Limits.{fieldLimit}
 use Rattle.text.specs.Lists.{any}
-use Rattle.fault.specs.Fault.{Reading, fault, value}
+use Rattle.fault.specs.Fault.{Reading, fault, value, readAll, require}
 use Rattle.fault.specs.declared.Cause.{Cause}
+use Rattle.fault.specs.declared.Cause.the-variants.{FieldLength}
+use Rattle.pattern.specs.declared.Syntax.{Syntax}
+use Rattle.pattern.specs.declared.alternatives.Alternative.{Alternative as Found}
+use Rattle.pattern.specs.Tree.{patternOf, listOf, expanded}
+use Rattle.pattern.specs.Whole.{expansionsOf}
+use Rattle.pattern.specs.Contract.{HasNumber, expansionsIn, Few, AlternativeAt}
+use Rattle.question.specs.declared.WeekMinute.{WeekMinute}
 use Rattle.question.specs.Contract.{stringsIn}
 use Rattle.glob.specs.Match.{matches}
-use Rattle.glob.specs.Alternative.{Alternative}
+use Rattle.matching.specs.Alternative.{Alternative}
 use Rattle.condition.specs.declared.rightmost.Rightmost.{Rightmost}
 use Rattle.condition.specs.declared.prefix.Asks.{Asks}
 use Rattle.condition.specs.declared.prefix.Asks.the-variants.{User, Group, Time}
@@ -22,7 +32,7 @@ use Rattle.condition.specs.declared.judge.Judgement.{Judgement}
 use Rattle.condition.specs.declared.judge.Judgement.the-variants.{Malformed, Applies, Misses}
 use Rattle.condition.specs.Rightmost.{Judged}
 use Rattle.condition.specs.Users.{onHost}
-use Rattle.condition.specs.Condition.{Sort, user, group, time, Prefixed, behindPrefix, Judge, judgeOf, Condition}
+use Rattle.condition.specs.Condition.{Sort, user, group, time, Prefixed, behindPrefix, Judge, judgeOf, alternativeRead, conditionOf, Condition}
 
 -- no alternative so far
 abbrev pub noneKept : Rightmost
@@ -95,6 +105,33 @@ unfoldable pub addedBy : Rightmost → Reading Cause (List Judged) → Added
 addedBy r (fault c) = AddedFault c
 addedBy r (value xs) = Kept (addedAll r xs)
 
+-- what is kept with these expansions of a condition, each judged in turn, or the fault of the first that has one
+abbrev pub addedWith : (judging : Bool) (user groups host : List ℕ) (minute : WeekMinute) (negated : Bool) (asks : Asks) → Rightmost → List (List ℕ) → Added
+addedWith judging u gs h m negated asks kept es = addedBy kept (readAll (alternativeRead (judgeBy judging u gs h (m .0)) negated (sortIn asks)) es)
+
+-- the brace-free expansions of the alternative that begins at a place of a pattern
+abbrev pub expansionsFrom : Syntax → List ℕ → ℕ → List (List ℕ)
+expansionsFrom syntax p at = expansionsIn (patternOf syntax false (drop at p))
+
+-- a pattern that a field can hold, without a fault
+pub record GoodPattern (syntax : Syntax) (p : List ℕ) : Type 0 where
+  pub short : length p ≤ fieldLimit
+  pub good : expanded syntax p ≡ value (expansionsOf syntax p)
+
+-- what was found at a place of a pattern that a field can hold, with at most 64 expansions from there on
+pub record FoundAt (syntax : Syntax) (p : List ℕ) (at : ℕ) (found : Found) : Type 0 where
+  pub short : length p ≤ fieldLimit
+  pub within : at ≤ length p
+  pub few : Few (listOf syntax false (drop at p))
+  pub told : AlternativeAt p at found (patternOf syntax false (drop at p))
+
+-- an alternative at a place of a pattern that a field can hold, with so many expansions, at most 64
+pub record HasBraces (syntax : Syntax) (p : List ℕ) (at number : ℕ) : Type 0 where
+  pub short : length p ≤ fieldLimit
+  pub within : at ≤ length p
+  pub numbers : HasNumber (patternOf syntax false (drop at p)) number
+  pub few : number ≤ 64
+
 -- users and groups are kept together, times apart
 abbrev pub keptFor : Sort → (users times : Rightmost) → Rightmost
 keptFor user us ts = us
@@ -114,3 +151,7 @@ readAdded s (Kept r) = readFor s r
 unfoldable pub conditionRead : (users times : Rightmost) → Reading Cause Condition → ConditionRead
 conditionRead us ts (fault c) = Fault c
 conditionRead us ts (value c) = readFor (c .sort) (addedAll (keptFor (c .sort) us ts) (c .alternatives))
+
+-- what a field's text comes to as a condition, once it is not too long
+abbrev pub conditionTold : (judging : Bool) (user groups host : List ℕ) (minute : WeekMinute) (users times : Rightmost) → List ℕ → ConditionRead
+conditionTold judging u gs h m us ts t = conditionRead us ts (require (leb (length t) fieldLimit) FieldLength (conditionOf (judgeIf judging (judgeOf u (stringsIn gs) h (m .0))) t))

@@ -7,7 +7,7 @@ use Rattle.text.specs.Bytes.{bytes}
 use Rattle.text.specs.Lists.{any}
 use Rattle.text.specs.Slice.{same}
 use Rattle.glob.specs.Match.{matches}
-use Rattle.glob.specs.Alternative.{Alternative}
+use Rattle.matching.specs.Alternative.{Alternative}
 use Rattle.condition.specs.Rightmost.{Judged, rightmost}
 
 -- no host part, or one that matches the host

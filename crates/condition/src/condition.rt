@@ -5,14 +5,13 @@ use super::prefix::Asks;
 use super::prefix::prefix_of;
 use super::rightmost::Rightmost;
 use fault::Cause;
-use pattern::Expanded;
+use matching::field::Expanded;
+use matching::field::read_pattern_field;
 use pattern::Pattern;
 use pattern::Syntax;
 use pattern::alternatives::Alternative;
 use pattern::alternatives::alternative_at;
 use pattern::alternatives::put_alternative;
-use pattern::reader::read_expansions;
-use pattern::whole::is_flat;
 use question::WeekMinute;
 use text::buffer::Filled;
 use text::slice::Found;
@@ -20,19 +19,14 @@ use text::slice::find_byte;
 use text::slice::past_head;
 ghost use Prim.Native.Nat.{_≤_};
 ghost use mathlib.Core.Path.{_≡_};
-ghost use mathlib.Core.Bool.{false, not, _||_};
+ghost use mathlib.Core.Bool.{not, _||_};
 ghost use mathlib.Core.List.{[], _∷_};
-ghost use lib.Dec.{leb};
-ghost use lib.ListN.{length, drop};
+ghost use lib.ListN.{length};
 ghost use Rattle.text.specs.Bytes.{byte};
 ghost use Rattle.text.specs.Lists.{has};
-ghost use Rattle.fault.specs.Fault.{value, readAll, require};
-ghost use Rattle.pattern.specs.Contract.{HasNumber, expansionsIn, Few, AlternativeAt};
-ghost use Rattle.pattern.specs.Tree.{patternOf, expanded, listOf};
 ghost use Rattle.pattern.specs.Whole.{expansionsOf};
-ghost use Rattle.question.specs.Contract.{stringsIn};
-ghost use Rattle.condition.specs.Condition.{judgeOf, kindFor, causeFor, alternativeRead, alternativesOf, conditionBehind, conditionOf};
-ghost use Rattle.condition.specs.Contract.{sortIn, judgeIf, judgeBy, addedBy, keptFor, readAdded, conditionRead};
+ghost use Rattle.condition.specs.Condition.{kindFor, causeFor, alternativesOf, conditionBehind};
+ghost use Rattle.condition.specs.Contract.{sortIn, judgeBy, addedBy, addedWith, expansionsFrom, GoodPattern, FoundAt, HasBraces, keptFor, readAdded, conditionRead, conditionTold};
 
 // What a field's text comes to: a fault, or what is kept of its sort with its alternatives.
 pub enum ConditionRead {
@@ -92,7 +86,7 @@ fn add_one(
     host: &[u8],
     kept: Rightmost,
 ) -> Added
-    ensures { λ r. ⌜ r ≡ addedBy kept (readAll (alternativeRead (judgeBy judging (now (user .entry)) (now (groups .entry)) (now (host .entry)) (minute .0)) negated (sortIn asks)) (now (e .entry) ∷ [])) ⌝ }
+    ensures { λ r. ⌜ r ≡ addedWith judging (now (user .entry)) (now (groups .entry)) (now (host .entry)) minute negated asks kept (now (e .entry) ∷ []) ⌝ }
 {
     match judge(asks, judging, minute, e, user, groups, host) {
         Judgement::Malformed => Added::Fault(cause_for(asks)),
@@ -116,8 +110,8 @@ fn add_braced(
     host: &[u8],
     kept: Rightmost,
 ) -> Added
-    requires { ⌜ (length (now p) ≤ 1024) × (at ≤ length (now p)) × HasNumber (patternOf syntax false (drop at (now p))) number × (number ≤ 64) ⌝ }
-    ensures { λ r. ⌜ r ≡ addedBy kept (readAll (alternativeRead (judgeBy judging (now (user .entry)) (now (groups .entry)) (now (host .entry)) (minute .0)) negated (sortIn asks)) (expansionsIn (patternOf syntax false (drop at (now (p .entry)))))) ⌝ }
+    requires { ⌜ HasBraces syntax (now p) at number ⌝ }
+    ensures { λ r. ⌜ r ≡ addedWith judging (now (user .entry)) (now (groups .entry)) (now (host .entry)) minute negated asks kept (expansionsFrom syntax (now (p .entry)) at) ⌝ }
 {
     let mut out = [0u8; Pattern::BYTES];
     let mut r = kept;
@@ -168,8 +162,8 @@ fn add_found(
     host: &[u8],
     kept: Rightmost,
 ) -> Added
-    requires { ⌜ (length (now p) ≤ 1024) × (at ≤ length (now p)) × Few (listOf syntax false (drop at (now p))) × AlternativeAt (now p) at found (patternOf syntax false (drop at (now p))) ⌝ }
-    ensures { λ r. ⌜ r ≡ addedBy kept (readAll (alternativeRead (judgeBy judging (now (user .entry)) (now (groups .entry)) (now (host .entry)) (minute .0)) negated (sortIn asks)) (expansionsIn (patternOf syntax false (drop at (now (p .entry)))))) ⌝ }
+    requires { ⌜ FoundAt syntax (now p) at found ⌝ }
+    ensures { λ r. ⌜ r ≡ addedWith judging (now (user .entry)) (now (groups .entry)) (now (host .entry)) minute negated asks kept (expansionsFrom syntax (now (p .entry)) at) ⌝ }
 {
     match found {
         Alternative::Flat(end) => add_one(
@@ -214,8 +208,8 @@ fn add_all(
     host: &[u8],
     kept: Rightmost,
 ) -> Added
-    requires { ⌜ (length (now p) ≤ 1024) × (expanded syntax (now p) ≡ value (expansionsOf syntax (now p))) ⌝ }
-    ensures { λ r. ⌜ r ≡ addedBy kept (readAll (alternativeRead (judgeBy judging (now (user .entry)) (now (groups .entry)) (now (host .entry)) (minute .0)) negated (sortIn asks)) (expansionsOf syntax (now (p .entry)))) ⌝ }
+    requires { ⌜ GoodPattern syntax (now p) ⌝ }
+    ensures { λ r. ⌜ r ≡ addedWith judging (now (user .entry)) (now (groups .entry)) (now (host .entry)) minute negated asks kept (expansionsOf syntax (now (p .entry))) ⌝ }
 {
     let mut r = kept;
     let mut i = 0;
@@ -266,11 +260,9 @@ fn add_alternatives(
     ensures { λ r. ⌜ r ≡ addedBy kept (alternativesOf (judgeBy judging (now (user .entry)) (now (groups .entry)) (now (host .entry)) (minute .0)) negated (sortIn asks) (now (p .entry))) ⌝ }
 {
     let syntax = kind_for(asks);
-    if is_flat(syntax, p) {
-        return add_one(minute, asks, negated, judging, p, user, groups, host, kept);
-    }
-    match read_expansions(syntax, p) {
+    match read_pattern_field(syntax, p) {
         Expanded::Fault(cause) => Added::Fault(cause),
+        Expanded::Flat => add_one(minute, asks, negated, judging, p, user, groups, host, kept),
         Expanded::Number(_) => add_all(
             syntax,
             minute,
@@ -357,7 +349,7 @@ pub fn read_condition(
     users: Rightmost,
     times: Rightmost,
 ) -> ConditionRead
-    ensures { λ r. ⌜ r ≡ conditionRead users times (require (leb (length (now (text .entry))) 1024) Cause.FieldLength (conditionOf (judgeIf judging (judgeOf (now (user .entry)) (stringsIn (now (groups .entry))) (now (host .entry)) (minute .0))) (now (text .entry)))) ⌝ }
+    ensures { λ r. ⌜ r ≡ conditionTold judging (now (user .entry)) (now (groups .entry)) (now (host .entry)) minute users times (now (text .entry)) ⌝ }
 {
     if text.len() > Pattern::BYTES {
         return ConditionRead::Fault(Cause::FieldLength);

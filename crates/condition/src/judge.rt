@@ -1,8 +1,8 @@
 // One alternative of a condition: whether it has a good form, and whether it applies.
 use super::prefix::Asks;
-use glob::alternative::Parted;
-use glob::alternative::part;
-use glob::matcher::matches_expansion;
+use matching::alternative::Parted;
+use matching::alternative::part;
+use matching::matcher::matches_one;
 use question::WeekMinute;
 use question::strings::string_end;
 use times::item::ItemAnswer;
@@ -13,7 +13,7 @@ ghost use mathlib.Core.Option.{Option·map};
 ghost use Rattle.text.specs.Lists.{any};
 ghost use Rattle.question.specs.Contract.{stringsIn};
 ghost use Rattle.glob.specs.Match.{matches};
-ghost use Rattle.glob.specs.Alternative.{alternativeOf};
+ghost use Rattle.matching.specs.Alternative.{alternativeOf};
 ghost use Rattle.times.specs.Item.{itemOf, itemMatches};
 ghost use Rattle.condition.specs.Contract.{sortIn, judgementIn, judgementOf, judgeBy, nameApplies, appliesBy, asksTime};
 
@@ -44,7 +44,7 @@ fn some_group_matches(pattern: &[u8], groups: &[u8]) -> bool
         if end == groups.len() {
             return false;
         }
-        if matches_expansion(pattern, &groups[from..end]) {
+        if matches_one(pattern, &groups[from..end]) {
             return true;
         }
         from = end + 1;
@@ -60,7 +60,7 @@ fn name_matches(asks: Asks, judging: bool, pattern: &[u8], user: &[u8], groups: 
         return false;
     }
     match asks {
-        Asks::User => matches_expansion(pattern, user),
+        Asks::User => matches_one(pattern, user),
         Asks::Group => some_group_matches(pattern, groups),
         Asks::Time => false,
     }
@@ -84,7 +84,7 @@ fn judge_name(
             if !name_matches(asks, judging, &e[..at], user, groups) {
                 return Judgement::Misses;
             }
-            of_test(matches_expansion(&e[at + 1..], host))
+            of_test(matches_one(&e[at + 1..], host))
         }
     }
 }

@@ -8,7 +8,7 @@ use Rattle.text.specs.Bytes.{bytes}
 use Rattle.text.specs.Lists.{null}
 use Rattle.text.specs.Slice.{same}
 use Rattle.fault.specs.declared.Cause.the-variants.{MissingPart, OptionTwice}
-use Rattle.glob.specs.Match.{matchesSome}
+use Rattle.matching.specs.Whole.{matchesSome}
 use Rattle.options.specs.Contract.{lineOf}
 use Rattle.condition.specs.Rightmost.{Judged}
 use Rattle.condition.specs.Users.{usersAccept}

@@ -16,7 +16,7 @@ use Rattle.fault.specs.declared.Cause.{Cause}
 use Rattle.fault.specs.declared.Cause.the-variants.{FieldLength}
 use Rattle.question.specs.Question.{Question}
 use Rattle.question.specs.declared.LastAuthentication.{LastAuthentication}
-use Rattle.glob.specs.Match.{matchesSome}
+use Rattle.matching.specs.Whole.{matchesSome}
 use Rattle.options.specs.Options.{Options}
 use Rattle.options.specs.Arguments.{ArgumentPattern, inForce}
 use Rattle.options.specs.Read.{Setting, optionsOf, argumentsOf}

@@ -4,7 +4,7 @@ use mathlib.Core.Bool.{cond}
 use mathlib.Core.List.{List, [], _∷_, _++_}
 use mathlib.Core.Option.{Option, none, some}
 use Rattle.text.specs.Bytes.{is}
-use Rattle.glob.specs.Match.{matchesSome}
+use Rattle.matching.specs.Whole.{matchesSome}
 use Rattle.entry.specs.Field.{Pair}
 
 -- "5: path longer than 1,024 bytes"

@@ -1,11 +1,10 @@
 // A command pattern and its path.
 use fault::Cause;
-use glob::matcher::matches_expansion;
-use pattern::Expanded;
+use matching::field::Expanded;
+use matching::field::read_pattern_field;
+use matching::matcher::matches_one;
+use matching::matcher::matches_pattern;
 use pattern::Syntax;
-use pattern::matcher::matches_pattern;
-use pattern::reader::read_expansions;
-use pattern::whole::is_flat;
 use text::slice::byte_from;
 use text::slice::head_is;
 ghost use mathlib.Core.Path.{_≡_};
@@ -60,14 +59,14 @@ pub fn read_command(p: &[u8], judging: bool, command: &[u8]) -> CommandRead
     requires { ⌜ length (now p) ≤ 1024 ⌝ }
     ensures { λ r. ⌜ r ≡ commandRead judging (now (command .entry)) (expanded Syntax.Plain (now (p .entry))) ⌝ }
 {
-    if is_flat(Syntax::Plain, p) {
-        if judging {
-            return of_test(matches_expansion(p, command));
-        }
-        return CommandRead::Misses;
-    }
-    match read_expansions(Syntax::Plain, p) {
+    match read_pattern_field(Syntax::Plain, p) {
         Expanded::Fault(cause) => CommandRead::Fault(cause),
+        Expanded::Flat => {
+            if judging {
+                return of_test(matches_one(p, command));
+            }
+            CommandRead::Misses
+        }
         Expanded::Number(_) => {
             if judging {
                 return of_test(matches_pattern(Syntax::Plain, p, command));

@@ -2,4 +2,3 @@ pub mod SetLaws
 pub mod MatchLaws
 pub mod BudgetLaws
 pub mod SearchLaws
-pub mod AlternativeLaws

@@ -12,7 +12,7 @@ use lib.ListN.{length, drop, getD, length-drop, drop-of-length-le}
 use lib.Seq.{drop-drop}
 use Rattle.text.specs.Lists.{any}
 use Rattle.text.proofs.Laws.{next, both-true, both-yes, either-no, either-of, either-true, false-of, same-test, pick-of, clash}
-use Rattle.glob.specs.Set.{inSet}
+use Rattle.glob.specs.Set.{negates, inSet}
 use Rattle.glob.specs.Match.{Token, anyRun, anyByte, noByte, thisByte, byteOf, signOf, star, tokens, tails, matchTokens, matches}
 use Rattle.glob.specs.Contract.{worth, Usable, OneLess, Covers, isRun, takes, testsOf, testsAt, TakesTo, TakesNot, matchesBehind, Stars, Fails, FailsOn}
 use Rattle.glob.specs.declared.matcher.Budget.{Budget}
@@ -24,9 +24,9 @@ byte-takes : (c b : ℕ) → takes (thisByte c) b ≡ eqb c b
 unfolding takes matchTokens
 byte-takes c b = both-yes (eqb c b)
 
-set-takes : (t : List ℕ) (b : ℕ) → takes (byteOf t) b ≡ inSet t b
+set-takes : (t : List ℕ) (b : ℕ) → takes (byteOf t) b ≡ inSet negates t b
 unfolding takes matchTokens
-set-takes t b = both-yes (inSet t b)
+set-takes t b = both-yes (inSet negates t b)
 
 token-matches : (t : Token) (q : List Token) (b : ℕ) (s : List ℕ) → isRun t ≡ false → matchTokens (t ∷ q) (b ∷ s) ≡ takes t b && matchTokens q s
 unfolding matchTokens isRun takes any tails
@@ -34,7 +34,7 @@ token-matches anyRun q b s e = clash cc
 token-matches anyByte q b s e = refl
 token-matches noByte q b s e = refl
 token-matches (thisByte c) q b s e = rw (both-yes (eqb c b))
-token-matches (byteOf t) q b s e = rw (both-yes (inSet t b))
+token-matches (byteOf t) q b s e = rw (both-yes (inSet negates t b))
 
 token-none : (t : Token) (q : List Token) → isRun t ≡ false → matchTokens (t ∷ q) [] ≡ false
 unfolding matchTokens isRun any tails
@@ -68,7 +68,7 @@ module _ {p : List ℕ} {i b : ℕ} {old new : Budget} (u : OneLess (length p) o
     unfolding isRun
     this-byte c e f = record { token = thisByte c; ahead = l; high = h; here = e; no-star = refl; taken = byte-takes c b ∙ eq-eqb _ _ f; less = u }
 
-    pub set-byte : (t : List ℕ) → tokens (drop i p) ≡ byteOf t ∷ tokens (drop k p) → inSet t b ≡ true → TakesTo p i b k old new
+    pub set-byte : (t : List ℕ) → tokens (drop i p) ≡ byteOf t ∷ tokens (drop k p) → inSet negates t b ≡ true → TakesTo p i b k old new
     unfolding isRun
     set-byte t e f = record { token = byteOf t; ahead = l; high = h; here = e; no-star = refl; taken = set-takes t b ∙ f; less = u }
 
@@ -76,7 +76,7 @@ module _ {p : List ℕ} {i b : ℕ} {old new : Budget} (u : OneLess (length p) o
   unfolding isRun
   other-byte c q e f = record { token = thisByte c; rest = q; here = e; no-star = refl; not-taken = byte-takes c b ∙ ne-eqb _ _ f; less = u }
 
-  pub outside : (t : List ℕ) (q : List Token) → tokens (drop i p) ≡ byteOf t ∷ q → inSet t b ≡ false → TakesNot p i b old new
+  pub outside : (t : List ℕ) (q : List Token) → tokens (drop i p) ≡ byteOf t ∷ q → inSet negates t b ≡ false → TakesNot p i b old new
   unfolding isRun
   outside t q e f = record { token = byteOf t; rest = q; here = e; no-star = refl; not-taken = set-takes t b ∙ f; less = u }
 

@@ -137,39 +137,39 @@ module _ (s : List ℕ) (i : ℕ) (h : length s ≤ i) where
   unfolding covered any ranges
   covered-end b = rw (drop-of-length-le s h)
 
--- ---- the `!` in front
-members-is : (s : List ℕ) (r : ℕ) → r ≡ cond (headIs 33 s) 1 0 → members s ≡ ranges (drop r s)
+-- ---- the mark in front
+members-is : (m : ℕ) (s : List ℕ) (r : ℕ) → r ≡ cond (headIs m s) 1 0 → members m s ≡ ranges (drop r s)
 unfolding members
-members-is s r e = rw e (go (headIs 33 s))
+members-is m s r e = rw e (go (headIs m s))
   where
     go : (t : Bool) → ranges (cond t (drop 1 s) s) ≡ ranges (drop (cond t 1 0) s)
     go true = refl
     go false = refl
 
-module _ (s : List ℕ) (r : ℕ) (e : r ≡ cond (headIs 33 s) 1 0) where
-  pub good-none : length s ≤ r → false ≡ goodSet s
+module _ (m : ℕ) (s : List ℕ) (r : ℕ) (e : r ≡ cond (headIs m s) 1 0) where
+  pub good-none : length s ≤ r → false ≡ goodSet m s
   unfolding goodSet ranges
-  good-none h = rw (members-is s r e, drop-of-length-le s h)
+  good-none h = rw (members-is m s r e, drop-of-length-le s h)
 
-  pub good-some : r < length s → all rising (ranges (drop r s)) ≡ goodSet s
+  pub good-some : r < length s → all rising (ranges (drop r s)) ≡ goodSet m s
   unfolding goodSet
-  good-some h = rw (members-is s r e) (rw (filled h))
+  good-some h = rw (members-is m s r e) (rw (filled h))
     where
       filled : r < length s → null (ranges (drop r s)) ≡ false
       filled h = rw (next s r h) (some-range (getD s r 0) (drop (r + 1) s))
 
-  pub in-negated : (b : ℕ) → r ≡ 1 → not (covered (ranges (drop r s)) b) ≡ inSet s b
+  pub in-negated : (b : ℕ) → r ≡ 1 → not (covered (ranges (drop r s)) b) ≡ inSet m s b
   unfolding inSet
-  in-negated b h = rw (← (members-is s r e)) (go (headIs 33 s) (sym h ∙ e))
+  in-negated b h = rw (← (members-is m s r e)) (go (headIs m s) (sym h ∙ e))
     where
-      go : (t : Bool) → _≡_ {A = ℕ} 1 (cond t 1 0) → not (covered (members s) b) ≡ cond t (not (covered (members s) b)) (covered (members s) b)
+      go : (t : Bool) → _≡_ {A = ℕ} 1 (cond t 1 0) → not (covered (members m s) b) ≡ cond t (not (covered (members m s) b)) (covered (members m s) b)
       go true k = refl
       go false k = absurd (omega arith)
 
-  pub in-plain : (b : ℕ) → (r ≡ 1 → ⊥) → covered (ranges (drop r s)) b ≡ inSet s b
+  pub in-plain : (b : ℕ) → (r ≡ 1 → ⊥) → covered (ranges (drop r s)) b ≡ inSet m s b
   unfolding inSet
-  in-plain b h = rw (← (members-is s r e)) (go (headIs 33 s) e)
+  in-plain b h = rw (← (members-is m s r e)) (go (headIs m s) e)
     where
-      go : (t : Bool) → r ≡ cond t 1 0 → covered (members s) b ≡ cond t (not (covered (members s) b)) (covered (members s) b)
+      go : (t : Bool) → r ≡ cond t 1 0 → covered (members m s) b ≡ cond t (not (covered (members m s) b)) (covered (members m s) b)
       go true k = absurd (h k)
       go false k = refl

@@ -3,17 +3,11 @@ use Prim.Native.Nat.{ℕ, suc, _+_, _*_, _-_, _≤_, _<_}
 use mathlib.Core.Path.{_≡_}
 use mathlib.Core.Bool.{Bool, true, false, cond}
 use mathlib.Core.List.{List, [], _∷_}
-use mathlib.Core.Option.{Option, none, some}
-use lib.ListN.{length, drop, take, getD}
+use lib.ListN.{length, drop, getD}
 use Rattle.text.specs.Class.{range}
-use Rattle.text.specs.Lists.{has, any}
+use Rattle.text.specs.Lists.{any}
 use Rattle.glob.specs.Set.{ranges}
 use Rattle.glob.specs.Match.{Token, tokens, tails, matchTokens, matches}
-use Rattle.glob.specs.Alternative.{Alternative, partsOf, alternativeOf}
-use Rattle.glob.specs.declared.alternative.ByteContext.{ByteContext}
-use Rattle.glob.specs.declared.alternative.ByteContext.the-variants.{Free}
-use Rattle.glob.specs.declared.alternative.Parted.{Parted}
-use Rattle.glob.specs.declared.alternative.Parted.the-variants.{Malformed, Name, NameAtHost}
 use Rattle.glob.specs.declared.matcher.Budget.{Budget}
 use Rattle.glob.specs.declared.matcher.Spent.{Spent}
 use Rattle.glob.specs.declared.matcher.Spent.the-variants.{Left, Nothing}
@@ -27,48 +21,6 @@ pub record RangeAt (s : List ℕ) (at r : ℕ) : Type 0 where
   pub low : at ≤ r
   pub high : r < length s
   pub reads : ranges (drop at s) ≡ range (getD s at 0) (getD s r 0) ∷ ranges (drop (r + 1) s)
-
--- a first part, and those behind the `@` that ends it
-abbrev pub partsBy : List ℕ → List ℕ → List (List ℕ)
-partsBy p [] = p ∷ []
-partsBy p (c ∷ s) = p ∷ partsOf Free s
-
--- r is where the first `@` that parts stands from `from` on, read in this context, or the length
-pub record PartsFrom (w : ByteContext) (a : List ℕ) (from r : ℕ) : Type 0 where
-  pub low : from ≤ r
-  pub high : r ≤ length a
-  pub parts : partsOf w (drop from a) ≡ partsBy (take (r - from) (drop from a)) (drop r a)
-
--- a byte that is no colon, no `~`, no `@`, no backslash and no bracket
-pub record Simple (c : ℕ) : Type 0 where
-  pub no-colon : c ≡ 58 → ⊥
-  pub no-tilde : c ≡ 126 → ⊥
-  pub no-at : c ≡ 64 → ⊥
-  pub no-slash : c ≡ 92 → ⊥
-  pub no-bracket : c ≡ 91 → ⊥
-
--- bytes that are one part, without a colon or a `~`
-pub record SimpleName (a : List ℕ) : Type 0 where
-  pub no-colon : has 58 a ≡ false
-  pub no-tilde : has 126 a ≡ false
-  pub one : partsOf Free a ≡ a ∷ []
-
--- the alternative that an answer tells
-abbrev pub partedIn : List ℕ → Parted → Option Alternative
-partedIn a Malformed = none
-partedIn a Name = some record { name = a; host = none }
-partedIn a (NameAtHost i) = some record { name = take i a; host = some (drop (i + 1) a) }
-
--- the `@` told stands in the bytes
-abbrev pub PartedWithin : List ℕ → Parted → Type 0
-PartedWithin a Malformed = Unit {0}
-PartedWithin a Name = Unit {0}
-PartedWithin a (NameAtHost i) = i < length a
-
--- an answer tells the alternative that the bytes are
-pub record TellsAlternative (a : List ℕ) (r : Parted) : Type 0 where
-  pub within : PartedWithin a r
-  pub same : partedIn a r ≡ alternativeOf a
 
 -- ---- the search by the last star, and its budget (02 (iii))
 -- the tests that a budget is good for, where a row has so many

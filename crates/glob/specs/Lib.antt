@@ -1,4 +1,3 @@
 pub mod Set
 pub mod Match
-pub mod Alternative
 pub mod Contract

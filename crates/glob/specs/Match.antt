@@ -5,7 +5,7 @@ use mathlib.Core.List.{List, [], _∷_, _++_}
 use lib.Dec.{eqb}
 use Rattle.text.specs.Bytes.{is}
 use Rattle.text.specs.Lists.{null, any}
-use Rattle.glob.specs.Set.{inSet}
+use Rattle.glob.specs.Set.{negates, inSet}
 
 -- what a brace-free pattern is made of; nothing matches an open set or a last backslash
 pub data Token : Type 0 where
@@ -57,14 +57,9 @@ matchTokens (anyRun ∷ p) s = any (matchTokens p) (tails s)
 matchTokens (anyByte ∷ p) s = oneByte (λ _. true) (matchTokens p) s
 matchTokens (noByte ∷ p) s = false
 matchTokens (thisByte c ∷ p) s = oneByte (eqb c) (matchTokens p) s
-matchTokens (byteOf t ∷ p) s = oneByte (inSet t) (matchTokens p) s
+matchTokens (byteOf t ∷ p) s = oneByte (inSet negates t) (matchTokens p) s
 
 -- the brace-free pattern matches the whole name
 unfoldable pub matches : List ℕ → List ℕ → Bool
 unfolding tokens matchTokens
 matches p s = matchTokens (tokens p) s
-
--- 01: a pattern matches exactly if one of its brace-free expansions does
-unfoldable pub matchesSome : List (List ℕ) → List ℕ → Bool
-unfolding any matches
-matchesSome es s = any (λ e. matches e s) es

@@ -16,26 +16,30 @@ ranges (x ∷ []) = range x x ∷ []
 ranges (x ∷ m ∷ []) = range x x ∷ range m m ∷ []
 ranges (x ∷ m ∷ y ∷ s) = cond (is "-" m) (range x y ∷ ranges s) (range x x ∷ ranges (m ∷ y ∷ s))
 
--- what stands between the brackets, without the `!` that negates
-unfoldable pub members : List ℕ → List Range
+-- 01: the byte in front of a set's members that negates it
+abbrev pub negates : ℕ
+negates = byte "!"
+
+-- what stands between the brackets, without the mark that negates
+unfoldable pub members : (mark : ℕ) → List ℕ → List Range
 unfolding ranges headIs
-members body = ranges (cond (headIs (byte "!") body) (drop 1 body) body)
+members mark body = ranges (cond (headIs mark body) (drop 1 body) body)
 
 -- 01: x not above y
 abbrev pub rising : Range → Bool
 rising r = leb (r .low) (r .high)
 
 -- 01: not empty, and no range runs backwards
-unfoldable pub goodSet : List ℕ → Bool
+unfoldable pub goodSet : (mark : ℕ) → List ℕ → Bool
 unfolding members all
-goodSet body = not (null (members body)) && all rising (members body)
+goodSet mark body = not (null (members mark body)) && all rising (members mark body)
 
 -- the byte is in one of the ranges
 unfoldable pub covered : List Range → ℕ → Bool
 unfolding any
 covered rs b = any (λ r. inRange r b) rs
 
--- the set with these bytes between its brackets holds b; a `!` in front negates
-unfoldable pub inSet : List ℕ → ℕ → Bool
+-- the set with these bytes between its brackets holds b; the mark in front negates
+unfoldable pub inSet : (mark : ℕ) → List ℕ → ℕ → Bool
 unfolding members covered headIs
-inSet body b = cond (headIs (byte "!") body) (not (covered (members body) b)) (covered (members body) b)
+inSet mark body b = cond (headIs mark body) (not (covered (members mark body) b)) (covered (members mark body) b)

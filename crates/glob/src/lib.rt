@@ -1,4 +1,3 @@
-// Brace-free patterns: sets, what one matches, and an alternative parted into a name and a host.
-pub mod alternative; // the name and the host of one alternative
+// Brace-free patterns: sets, and what one matches.
 pub mod matcher; // what a brace-free pattern matches
 pub mod set; // the bytes between brackets

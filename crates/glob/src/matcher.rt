@@ -79,7 +79,7 @@ fn test_byte(p: &[u8], i: usize, b: u8, budget: Budget) -> Tested
                 if p.len() <= e {
                     return Tested::Off(left);
                 }
-                if set::in_set(&p[k..e], b) {
+                if set::in_set(set::NEGATES, &p[k..e], b) {
                     return Tested::Past(e + 1, left);
                 }
                 return Tested::Off(left);

@@ -10,6 +10,9 @@ ghost use Rattle.glob.specs.Set.{ranges, rising, covered, goodSet, inSet
 ghost use Rattle.text.specs.Contract.{lead};
 ghost use Rattle.glob.specs.Contract.{RangeAt};
 
+// The mark that negates a set, in front of its members.
+pub const NEGATES: u8 = b'!';
+
 // Where the first `]` at or after `at` stands, or the length.
 pub fn close(p: &[u8], at: usize) -> usize
     ensures { λ r. ⌜ (r ≡ at + lead 93 (drop at (now (p .entry)))) × (at ≤ r) × (at ≤ length (now (p .entry)) → r ≤ length (now (p .entry))) ⌝ }
@@ -70,22 +73,22 @@ fn in_ranges(body: &[u8], b: u8) -> bool
     false
 }
 
-// Whether the set has members and its ranges are in order.
-pub fn good_set(body: &[u8]) -> bool
-    ensures { λ r. ⌜ r ≡ goodSet (now (body .entry)) ⌝ }
+// Whether the set has members, behind a mark that negates it, and its ranges are in order.
+pub fn good_set(mark: u8, body: &[u8]) -> bool
+    ensures { λ r. ⌜ r ≡ goodSet mark (now (body .entry)) ⌝ }
 {
-    let from = past_head(body, b'!');
+    let from = past_head(body, mark);
     if body.len() <= from {
         return false;
     }
     in_order(&body[from..])
 }
 
-// Whether the set holds the byte.
-pub fn in_set(body: &[u8], b: u8) -> bool
-    ensures { λ r. ⌜ r ≡ inSet (now (body .entry)) b ⌝ }
+// Whether the set, which a mark in front negates, holds the byte.
+pub fn in_set(mark: u8, body: &[u8], b: u8) -> bool
+    ensures { λ r. ⌜ r ≡ inSet mark (now (body .entry)) b ⌝ }
 {
-    let from = past_head(body, b'!');
+    let from = past_head(body, mark);
     if from == 1 {
         return !in_ranges(&body[from..], b);
     }

@@ -31,7 +31,7 @@ pub struct Scanner {
 }
 
 // Whether a join stands at a place.
-fn joins_at(line: &[u8], i: usize) -> bool
+pub fn joins_at(line: &[u8], i: usize) -> bool
     requires { ⌜ i < length (now line) ⌝ }
     ensures { λ r. ⌜ r ≡ joinsAt (drop i (now (line .entry))) ⌝ }
 {
@@ -45,7 +45,7 @@ fn joins_at(line: &[u8], i: usize) -> bool
 }
 
 // The byte before a place; before the first, a newline.
-fn byte_before(line: &[u8], i: usize) -> u8
+pub fn byte_before(line: &[u8], i: usize) -> u8
     requires { ⌜ i ≤ length (now line) ⌝ }
     ensures { λ r. ⌜ r ≡ getD (10 ∷ now (line .entry)) i 0 ⌝ }
 {

@@ -15,7 +15,8 @@ use Rattle.text.proofs.Lists.{all-append}
 use Rattle.question.specs.Contract.{stringsIn, untilZero}
 use Rattle.question.proofs.ZeroEnded.{in-at, in-open, in-end}
 use Rattle.pattern.specs.declared.Syntax.the-variants.{Plain}
-use Rattle.pattern.specs.Whole.{expansionsOf, fieldExpansions, matchesPattern}
+use Rattle.pattern.specs.Whole.{expansionsOf}
+use Rattle.matching.specs.Whole.{fieldExpansions, matchesPattern}
 use Rattle.text.specs.Class.{Range, range}
 use Rattle.text.specs.Limits.{fieldLimit}
 use Rattle.options.specs.Arguments.{ArgumentPattern, passes, argumentsFrom, argumentsPass, inForce}

@@ -4,7 +4,7 @@ use mathlib.Core.List.{List, [], _∷_, _++_}
 use Prim.Native.Nat.{ℕ, _+_}
 use Rattle.text.specs.Class.{Range, inRange}
 use Rattle.text.specs.Lists.{all}
-use Rattle.glob.specs.Match.{matchesSome}
+use Rattle.matching.specs.Whole.{matchesSome}
 
 -- the positions that a pattern covers, from 1 on, and its brace-free expansions
 pub record ArgumentPattern : Type 0 where

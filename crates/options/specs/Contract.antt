@@ -13,7 +13,8 @@ use Rattle.text.specs.Parts.{Parts, partAt}
 use Rattle.fault.specs.Fault.{Reading, fault, value}
 use Rattle.fault.specs.declared.Cause.{Cause}
 use Rattle.pattern.specs.declared.Syntax.the-variants.{Plain}
-use Rattle.pattern.specs.Whole.{expansionsOf, fieldExpansions}
+use Rattle.pattern.specs.Whole.{expansionsOf}
+use Rattle.matching.specs.Whole.{fieldExpansions}
 use Rattle.options.specs.declared.Id.{Id}
 use Rattle.options.specs.declared.Id.the-variants.{Uid, Euid, Gid, Egid}
 use Rattle.options.specs.declared.ids.IdName.{IdName}

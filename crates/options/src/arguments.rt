@@ -1,7 +1,7 @@
 // Which arguments fail an argument pattern: nothing of the patterns is kept but this.
 use super::setting::OptionSetting;
+use matching::matcher::matches_pattern;
 use pattern::Syntax;
-use pattern::matcher::matches_pattern;
 use question::strings::string_end;
 ghost use Prim.Native.Nat.{ℕ};
 ghost use mathlib.Core.Path.{_≡_};

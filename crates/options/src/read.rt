@@ -8,9 +8,9 @@ use super::span::Span;
 use super::span::number_range;
 use super::timeout::read_timeout;
 use fault::Cause;
-use pattern::Expanded;
+use matching::field::Expanded;
+use matching::field::read_pattern_field;
 use pattern::Syntax;
-use pattern::reader::read_expansions;
 use text::slice::Found;
 use text::slice::equal;
 use text::slice::find_byte;
@@ -76,8 +76,9 @@ fn read_argument(positions: &[u8], v: &[u8]) -> OptionRead
 {
     match number_range(positions, 1, Failures::POSITIONS) {
         Span::Nothing => OptionRead::NotOption,
-        Span::Between(m, n) => match read_expansions(Syntax::Plain, v) {
+        Span::Between(m, n) => match read_pattern_field(Syntax::Plain, v) {
             Expanded::Fault(cause) => OptionRead::Faulty(cause),
+            Expanded::Flat => OptionRead::Set(OptionSetting::SetArgument(m, n)),
             Expanded::Number(_) => OptionRead::Set(OptionSetting::SetArgument(m, n)),
         },
     }

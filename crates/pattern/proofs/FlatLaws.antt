@@ -11,18 +11,18 @@ use lib.Dec.{leb}
 use lib.ListN.{length, take, drop, getD, drop-of-length-le, length-drop, length-append}
 use lib.Seq.{drop-drop, drop-append-seam, take-append-seam}
 use Rattle.text.proofs.Laws.{next, clash}
+use Rattle.fault.specs.Fault.{value}
 use Rattle.pattern.specs.declared.Syntax.{Syntax}
 use Rattle.pattern.specs.declared.run.RunRead.the-variants.{Opens, Ends, Malformed as RunMalformed}
 use Rattle.pattern.specs.declared.braces.ListRead.the-variants.{Done}
 use Rattle.pattern.specs.declared.alternatives.Alternative.{Alternative}
 use Rattle.pattern.specs.declared.alternatives.Alternative.the-variants.{Flat, Braced, Malformed as AlternativeMalformed}
-use Rattle.pattern.specs.Tree.{Tree, empty, piece, list, or, depth, number, fits, TreeRead, parsed, malformed, bind, patternOf, listOf, treeIn, treeOf}
-use Rattle.pattern.specs.Whole.{expansionsOf}
+use Rattle.pattern.specs.Tree.{Tree, empty, piece, list, or, depth, number, fits, TreeRead, parsed, malformed, bind, patternOf, listOf, treeIn, treeOf, expanded}
 use Rattle.pattern.specs.Contract.{opening, withPieces, RunAt, Tells, expansionsIn, EndsBefore, AlternativeAt, onlyPieces, flatTree, isFlat, alternativeParsed, alternativeFrom}
 use Rattle.pattern.proofs.TreeLaws.{list-first}
 use Rattle.pattern.proofs.Expanding.{told, wrapped, pieces-are, pieces-none}
 use Rattle.pattern.proofs.Alone.{never-closes}
-use Rattle.pattern.proofs.WholeLaws.{expanded-good, expansions-are}
+use Rattle.pattern.proofs.WholeLaws.{expanded-good}
 use Rattle.pattern.proofs.Taken.{TakesFlat, takes-pattern}
 
 -- ---- a tree of pieces alone
@@ -105,14 +105,14 @@ module _ (syntax : Syntax) (p : List ℕ) where
   flat-one t q = rw (flat-read t q)
 
   -- a flat pattern is its own only expansion
-  pub flat-alone : isFlat syntax p ≡ true → expansionsOf syntax p ≡ p ∷ []
+  pub flat-alone : isFlat syntax p ≡ true → expanded syntax p ≡ value (p ∷ [])
   flat-alone e = go (patternOf syntax false p) refl (takes-pattern syntax false p)
     where
-      go : (o : TreeRead) → patternOf syntax false p ≡ o → TakesFlat p o → expansionsOf syntax p ≡ p ∷ []
+      go : (o : TreeRead) → patternOf syntax false p ≡ o → TakesFlat p o → expanded syntax p ≡ value (p ∷ [])
       go (parsed t []) q h =
           let f : onlyPieces t ≡ true = flat-one t q ∙ e in
           let z : p ≡ h .0 = h .1 ∙ append-nil (h .0) in
-          expansions-are syntax p _ (expanded-good syntax p t (flat-read t q) (only-fits t f)) ∙ h .2 f ∙ ap (λ (x : List ℕ). x ∷ []) (sym z)
+          expanded-good syntax p t (flat-read t q) (only-fits t f) ∙ ap value (h .2 f ∙ ap (λ (x : List ℕ). x ∷ []) (sym z))
       go (parsed t (c ∷ r)) q h = let f = flat-parted t c r q in clash cc
       go malformed q h = let f = flat-malformed q in clash cc
 

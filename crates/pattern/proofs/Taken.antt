@@ -9,7 +9,7 @@ use lib.ListN.{length}
 use borrow.Author.Tests.{eqb-true}
 use Rattle.text.specs.Parts.{Parts, partAt}
 use Rattle.text.proofs.Laws.{pick-of, clash}
-use Rattle.glob.specs.Set.{goodSet}
+use Rattle.glob.specs.Set.{negates, goodSet}
 use Rattle.pattern.specs.declared.Syntax.{Syntax}
 use Rattle.pattern.specs.declared.role.Role.{Role}
 use Rattle.pattern.specs.declared.role.Role.the-variants.{Opens, Stops, Stray, Begins}
@@ -37,7 +37,7 @@ joins-parts c (b ∷ s) = go (eqb b c) refl (partAt c s) refl (joins-parts c s)
 
 joins-set : (s : List ℕ) (o : Option Parts) → JoinsParts 93 s o → Joins (91 ∷ s) (setPiece o)
 joins-set s none h = tt
-joins-set s (some q) h = pick-of (Joins (91 ∷ s)) (goodSet (q .front)) (ap (_∷_ 91) (h ∙ sym (append-assoc (q .front) (93 ∷ []) (q .back)))) tt
+joins-set s (some q) h = pick-of (Joins (91 ∷ s)) (goodSet negates (q .front)) (ap (_∷_ 91) (h ∙ sym (append-assoc (q .front) (93 ∷ []) (q .back)))) tt
 
 joins-escape : (s : List ℕ) → Joins (92 ∷ s) (escapePiece s)
 joins-escape [] = tt

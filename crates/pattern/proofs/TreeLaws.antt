@@ -12,7 +12,7 @@ use Rattle.pattern.specs.declared.Syntax.{Syntax}
 use Rattle.pattern.specs.declared.role.Role.{Role}
 use Rattle.pattern.specs.declared.role.Role.the-variants.{Opens, Stops, Stray, Begins}
 use Rattle.text.specs.Parts.{Parts, partAt}
-use Rattle.glob.specs.Set.{goodSet}
+use Rattle.glob.specs.Set.{negates, goodSet}
 use Rattle.pattern.specs.Tree.{Tree, empty, hasSets, roleOf, FirstPiece, escapePiece, setPiece, firstPiece, TreeRead, parsed, malformed, bind, atPiece, atByte, atEnd, afterOne, readPattern, readList, patternOf, listOf}
 
 -- ---- a piece and the bytes behind it are no more than there were
@@ -36,7 +36,7 @@ room-parts c (b ∷ s) = go (eqb b c) refl (partAt c s) refl (room-parts c s)
 
 room-set : (n : ℕ) (o : Option Parts) → RoomParts n o → RoomPiece (suc n) (setPiece o)
 room-set n none h = tt
-room-set n (some q) h = pick-of (RoomPiece (suc n)) (goodSet (q .front)) (omega arith, omega (arith, length-append (q .front) (93 ∷ []))) tt
+room-set n (some q) h = pick-of (RoomPiece (suc n)) (goodSet negates (q .front)) (omega arith, omega (arith, length-append (q .front) (93 ∷ []))) tt
 
 room-escape : (s : List ℕ) → RoomPiece (suc (length s)) (escapePiece s)
 room-escape [] = tt

@@ -1,33 +1,28 @@
 -- The laws of whole patterns, for the functions of this layer and for those above it. Assumes nothing.
 use mathlib.Core.Path.{_≡_, refl, sym, ap, _∙_}
 use mathlib.Core.Bool.{Bool, true, false, _&&_}
-use mathlib.Core.List.{List, [], _∷_}
+use mathlib.Core.List.{List, []}
 use mathlib.Core.Option.{Option, none, some}
 use Prim.Native.Nat.{ℕ, _+_, _≤_, _<_, min}
 use native.Mathlib.Omega.{arith}
 use native.Mathlib.Decide.{decLe, decLt}
-use borrow.Author.Tests.{le-leb, lt-leb, leb-true}
+use borrow.Author.Tests.{lt-leb, leb-true}
 use lib.Dec.{leb}
 use lib.ListN.{length, drop, getD, List·getD-eq-default}
-use Rattle.text.specs.Lists.{any}
-use Rattle.text.specs.Limits.{fieldLimit}
 use Rattle.text.specs.declared.buffer.Filled.{Filled}
 use Rattle.text.specs.declared.buffer.Filled.the-variants.{Full}
 use Rattle.text.specs.Contract.{Wrote}
 use Rattle.text.proofs.Buffers.{up-full}
-use Rattle.text.proofs.Lists.{any-on, any-off, any-end}
-use Rattle.text.proofs.Laws.{both-true, either-no, clash}
-use Rattle.fault.specs.Fault.{Reading, fault, value, andThen}
+use Rattle.text.proofs.Laws.{both-true, clash}
+use Rattle.fault.specs.Fault.{Reading, fault, value}
 use Rattle.fault.specs.declared.Cause.{Cause}
 use Rattle.fault.specs.declared.Cause.the-variants.{Pattern as BadPattern, PatternSize}
-use Rattle.glob.specs.Match.{matches, matchesSome}
 use Rattle.pattern.specs.declared.Syntax.{Syntax}
 use Rattle.pattern.specs.declared.Pattern.{Pattern}
 use Rattle.pattern.specs.declared.Shape.the-variants.{Malformed, Read}
-use Rattle.pattern.specs.declared.Expanded.the-variants.{Fault, Number}
 use Rattle.pattern.specs.Tree.{Tree, commasPart, depth, number, expansions, fits, TreeRead, parsed, malformed, patternOf, listOf, treeOf, expanded}
-use Rattle.pattern.specs.Whole.{orNone, expansionsOf, fieldExpansions, matchesPattern}
-use Rattle.pattern.specs.Contract.{sizeOf, shapeIn, shapeOf, expandedIn, expansionAt, chosen, HasNumber, HasNth}
+use Rattle.pattern.specs.Whole.{orNone, expansionsOf}
+use Rattle.pattern.specs.Contract.{sizeOf, shapeIn, shapeOf, expansionAt, chosen, HasNumber, HasNth}
 use Rattle.pattern.proofs.Readings.{number-some}
 use Rattle.pattern.proofs.Expansions.{counts, nth-is}
 use Rattle.pattern.proofs.Alone.{alone}
@@ -89,10 +84,6 @@ module _ (syntax : Syntax) (p : List ℕ) (es : List (List ℕ)) (e : expanded s
       let z : length es ≡ number (g .tree) = ap length (g .all) ∙ sym (counts (g .tree)) in
       (omega (arith, number-some (g .tree)), omega (arith, fits-few (g .tree) (g .fit)))
 
-  pub matches-are : (s : List ℕ) → length p ≤ fieldLimit → matchesPattern syntax p s ≡ matchesSome es s
-  unfolding matchesPattern fieldExpansions
-  matches-are s h = rw (le-leb _ _ h, expansions-are)
-
 -- ---- the number told decides whether there are at most 64
 few-told : (n : ℕ) → leb (min n 65) 64 ≡ leb n 64
 few-told n = elim (decLe n 64) [ yes h ↦ small h | no h ↦ large (omega arith) ]
@@ -108,11 +99,8 @@ pub fits-told : (t : Tree) → leb (sizeOf t .depth) 4 && leb (sizeOf t .number)
 unfolding fits sizeOf
 fits-told t = ap (_&&_ (leb (depth t) 4)) (few-told (number t))
 
--- ---- the answer of `read_expansions`
+-- ---- what `read_pattern` tells of the expansions
 module _ (syntax : Syntax) (p : List ℕ) where
-  abbrev Counted : Reading Cause ℕ
-  Counted = andThen (expanded syntax p) (λ es. value (length es))
-
   none-of : (o : Option Tree) → shapeIn o ≡ Malformed → o ≡ none
   none-of none e = refl
   none-of (some t) e = cc
@@ -121,48 +109,25 @@ module _ (syntax : Syntax) (p : List ℕ) where
   some-of none size e = clash cc
   some-of (some t) size e = (t, refl, cc)
 
-  pub counted-malformed : shapeOf syntax p ≡ Malformed → fault BadPattern ≡ Counted
+  pub shape-malformed : shapeOf syntax p ≡ Malformed → expanded syntax p ≡ fault BadPattern
   unfolding shapeOf
-  counted-malformed e = rw (expanded-none syntax p (none-of (treeOf syntax p) e))
+  shape-malformed e = expanded-none syntax p (none-of (treeOf syntax p) e)
 
   module _ (size : Pattern) (e : shapeOf syntax p ≡ Read size) where
-    pub counted-large : leb (size .depth) 4 && leb (size .number) 64 ≡ false → fault PatternSize ≡ Counted
+    pub shape-large : leb (size .depth) 4 && leb (size .number) 64 ≡ false → expanded syntax p ≡ fault PatternSize
     unfolding shapeOf
-    counted-large f =
+    shape-large f =
         let w = some-of (treeOf syntax p) size e in
         let g : fits (w .0) ≡ false = sym (fits-told (w .0)) ∙ (rw (w .2) at f) in
-        rw (expanded-large syntax p (w .0) (w .1) g)
+        expanded-large syntax p (w .0) (w .1) g
 
-    pub counted-good : leb (size .depth) 4 && leb (size .number) 64 ≡ true → value (size .number) ≡ Counted
+    pub shape-good : leb (size .depth) 4 && leb (size .number) 64 ≡ true → (es : List (List ℕ)) × (expanded syntax p ≡ value es) × (size .number ≡ length es)
     unfolding shapeOf sizeOf
-    counted-good f =
+    shape-good f =
         let w = some-of (treeOf syntax p) size e in
         let g : fits (w .0) ≡ true = sym (fits-told (w .0)) ∙ (rw (w .2) at f) in
         let z : min (number (w .0)) 65 ≡ length (expansions (w .0)) = omega (arith, fits-few (w .0) g, counts (w .0)) in
-        let n : size .number ≡ length (expansions (w .0)) = ap (λ (x : Pattern). x .number) (w .2) ∙ z in
-        rw (expanded-good syntax p (w .0) (w .1) g) (ap value n)
-
-  -- what it tells a caller
-  pub told-fault : (c : Cause) → expandedIn (Fault c) ≡ Counted → expanded syntax p ≡ fault c
-  told-fault c e = go (expanded syntax p) e
-    where
-      go : (r : Reading Cause (List (List ℕ))) → fault c ≡ andThen r (λ es. value (length es)) → r ≡ fault c
-      go (fault d) e = cc
-      go (value es) e = clash cc
-
-  pub told-number : (n : ℕ) → expandedIn (Number n) ≡ Counted → (es : List (List ℕ)) × (expanded syntax p ≡ value es) × (n ≡ length es)
-  told-number n e = go (expanded syntax p) refl e
-    where
-      go : (r : Reading Cause (List (List ℕ))) → expanded syntax p ≡ r → value n ≡ andThen r (λ es. value (length es)) → (es : List (List ℕ)) × (expanded syntax p ≡ value es) × (n ≡ length es)
-      go (fault d) q e = clash cc
-      go (value es) q e = (es, q, cc)
-
-  pub count-none : (c : Cause) → expandedIn (Fault c) ≡ Counted → 0 ≡ length (expansionsOf syntax p)
-  unfolding expansionsOf
-  count-none c e = rw (told-fault c e)
-
-  pub count-some : (n : ℕ) → expandedIn (Number n) ≡ Counted → n ≡ length (expansionsOf syntax p)
-  count-some n e = let w = told-number n e in rw (expansions-are syntax p (w .0) (w .1)) (w .2)
+        (expansions (w .0), expanded-good syntax p (w .0) (w .1) g, ap (λ (x : Pattern). x .number) (w .2) ∙ z)
 
 -- ---- an expansion is never longer than its pattern
 module _ (syntax : Syntax) (p : List ℕ) where
@@ -217,39 +182,3 @@ pub kth-alone : (syntax : Syntax) (p : List ℕ) (number k : ℕ) → commasPart
 kth-alone syntax p n k c e h =
     let w = kth syntax p n k e h in
     record { numbers = rw (← (alone syntax c p), e) (w .numbers); few = omega (arith, w .few); is = rw (← (alone syntax c p)) (w .is) }
-
--- ---- a pattern that is its own only expansion
-module _ (syntax : Syntax) (p : List ℕ) (e : expansionsOf syntax p ≡ p ∷ []) where
-  pub flat-expanded : expanded syntax p ≡ value (p ∷ [])
-  unfolding expansionsOf
-  flat-expanded = go (expanded syntax p) refl
-    where
-      go : (r : Reading Cause (List (List ℕ))) → expanded syntax p ≡ r → expanded syntax p ≡ value (p ∷ [])
-      go (fault c) q = let f = rw q at e in clash cc
-      go (value es) q = let f = rw q at e in q ∙ ap value f
-
-  pub flat-matches : (s : List ℕ) → matches p s ≡ matchesSome (expansionsOf syntax p) s
-  unfolding matchesSome any
-  flat-matches s = rw e (sym (either-no (matches p s)))
-
--- ---- matching, one expansion after the other
-module _ (syntax : Syntax) (p s : List ℕ) where
-  pub some-on : (k : ℕ) → k < length (expansionsOf syntax p) → matches (expansionAt syntax p k) s ≡ false → matchesSome (drop (k + 1) (expansionsOf syntax p)) s ≡ matchesSome (drop k (expansionsOf syntax p)) s
-  unfolding matchesSome expansionAt
-  some-on k h e = any-on [] (λ x. matches x s) (expansionsOf syntax p) k h e
-
-  pub some-hit : (k : ℕ) → k < length (expansionsOf syntax p) → matches (expansionAt syntax p k) s ≡ true → true ≡ matchesSome (drop k (expansionsOf syntax p)) s
-  unfolding matchesSome expansionAt
-  some-hit k h e = any-off [] (λ x. matches x s) (expansionsOf syntax p) k h e
-
-  pub some-end : (k : ℕ) → length (expansionsOf syntax p) ≤ k → false ≡ matchesSome (drop k (expansionsOf syntax p)) s
-  unfolding matchesSome
-  some-end k h = any-end (λ x. matches x s) (expansionsOf syntax p) k h
-
-  pub field-matches : length p ≤ fieldLimit → matchesSome (expansionsOf syntax p) s ≡ matchesPattern syntax p s
-  unfolding matchesPattern fieldExpansions
-  field-matches h = rw (le-leb _ _ h)
-
-  pub long-matches : fieldLimit < length p → false ≡ matchesPattern syntax p s
-  unfolding matchesPattern fieldExpansions matchesSome any
-  long-matches h = rw (lt-leb _ _ h)

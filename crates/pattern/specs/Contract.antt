@@ -7,16 +7,12 @@ use mathlib.Core.Option.{Option, none, some}
 use lib.Dec.{leb, ltb}
 use lib.ListN.{length, drop, take, getD}
 use Rattle.text.specs.Parts.{partAt}
-use Rattle.fault.specs.Fault.{Reading, fault, value}
-use Rattle.fault.specs.declared.Cause.{Cause}
 use Rattle.pattern.specs.Tree.{Tree, empty, piece, list, or, depth, number, expansions, FirstPiece, setPiece, firstPiece, TreeRead, parsed, malformed, bind, patternOf, listOf, treeOf}
 use Rattle.pattern.specs.Whole.{expansionsOf}
 use Rattle.pattern.specs.declared.Syntax.{Syntax}
 use Rattle.pattern.specs.declared.Pattern.{Pattern}
 use Rattle.pattern.specs.declared.Shape.{Shape}
 use Rattle.pattern.specs.declared.Shape.the-variants.{Malformed as ShapeMalformed, Read}
-use Rattle.pattern.specs.declared.Expanded.{Expanded}
-use Rattle.pattern.specs.declared.Expanded.the-variants.{Fault, Number}
 use Rattle.pattern.specs.declared.piece.PieceRead.{PieceRead}
 use Rattle.pattern.specs.declared.piece.PieceRead.the-variants.{To, Malformed as PieceMalformed}
 use Rattle.pattern.specs.declared.run.RunRead.{RunRead}
@@ -39,11 +35,6 @@ shapeIn (some t) = Read (sizeOf t)
 -- whether a pattern is well formed, and its size
 unfoldable pub shapeOf : Syntax → List ℕ → Shape
 shapeOf syntax p = shapeIn (treeOf syntax p)
-
--- the fault, or the number of expansions, that an answer tells
-abbrev pub expandedIn : Expanded → Reading Cause ℕ
-expandedIn (Fault c) = fault c
-expandedIn (Number n) = value n
 
 -- the k-th brace-free expansion, counted from 0; no bytes where there is none
 unfoldable pub expansionAt : Syntax → List ℕ → ℕ → List ℕ

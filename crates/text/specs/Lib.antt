@@ -2,6 +2,7 @@ pub mod Bytes
 pub mod Limits
 pub mod Lists
 pub mod Class
+pub mod Case
 pub mod Quote
 pub mod Slice
 pub mod Number

@@ -9,10 +9,11 @@ use lib.Dec.{lit≤}
 use lib.ListN.{length, take, drop, getD, drop-of-length-le}
 use lib.Seq.{getD-take, getD-drop}
 use Rattle.text.specs.Bytes.{bytes}
+use Rattle.text.specs.Case.{lowerOf}
 use Rattle.text.specs.Slice.{same}
 use Rattle.text.proofs.Laws.{next, next-of, below}
 use Rattle.times.specs.declared.day.Day.the-variants.{Every, Only}
-use Rattle.times.specs.Day.{dayNames, lowerOf, shortens, dayAmong, dayOf}
+use Rattle.times.specs.Day.{dayNames, shortens, dayAmong, dayOf}
 
 -- what the code's tables hold: nine bytes for each name, and the names' lengths
 unfoldable pub nameBytes : List ℕ

@@ -5,8 +5,8 @@ use mathlib.Core.List.{List, [], _∷_}
 use mathlib.Core.Option.{Option, none, some}
 use lib.Dec.{eqb, leb}
 use lib.ListN.{length}
-use Rattle.text.specs.Class.{within}
-use Rattle.text.specs.Bytes.{byte, bytes}
+use Rattle.text.specs.Bytes.{bytes}
+use Rattle.text.specs.Case.{lowerOf}
 use Rattle.text.specs.Slice.{same}
 use Rattle.times.specs.declared.day.Day.{Day}
 use Rattle.times.specs.declared.day.Day.the-variants.{Every, Only}
@@ -26,10 +26,6 @@ dayNames =
     ∷ bytes "saturday"
     ∷ bytes "sunday"
     ∷ []
-
--- a capital letter as a small one, any other byte as it is
-unfoldable pub lowerOf : ℕ → ℕ
-lowerOf b = cond (within (byte "A") (byte "Z") b) (b + 32) b
 
 -- the first, with letter case ignored, is a beginning of the second
 unfoldable pub shortens : List ℕ → List ℕ → Bool

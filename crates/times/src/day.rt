@@ -1,10 +1,11 @@
 // Day names, shortened to three letters or more, with letter case ignored.
+use text::case::lower;
 use text::slice::equal;
 ghost use Prim.Native.Nat.{_<_};
 ghost use mathlib.Core.Path.{_≡_};
 ghost use mathlib.Core.List.{[]};
 ghost use lib.ListN.{getD, length};
-ghost use Rattle.times.specs.Day.{dayNames, lowerOf, shortens, dayOf};
+ghost use Rattle.times.specs.Day.{dayNames, shortens, dayOf};
 ghost use Rattle.times.specs.Contract.{dayRead};
 
 // The days of an item.
@@ -46,19 +47,6 @@ fn name_length(d: usize) -> usize
     ensures { λ r. ⌜ r ≡ length (getD dayNames d []) ⌝ }
 {
     LENGTHS[d]
-}
-
-// A capital letter as a small one.
-fn lower(b: u8) -> u8
-    ensures { λ r. ⌜ r ≡ lowerOf b ⌝ }
-{
-    if b < b'A' {
-        return b;
-    }
-    if b > b'Z' {
-        return b;
-    }
-    b + 32
 }
 
 // Whether s is the beginning of the name of day d.

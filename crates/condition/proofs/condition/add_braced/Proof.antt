@@ -1,41 +1,33 @@
 use native.Mathlib.Omega.{arith}
 use borrow.Author.Needs.{needs}
 use mathlib.Core.Bool.{false}
-use mathlib.Core.List.{List}
 use mathlib.Core.Path.{_≡_, refl, sym, _∙_}
 use Prim.Native.Nat.{ℕ, _-_}
 use lib.ListN.{length, drop, length-replicate}
 use lib.Seq.{length-take-le}
 use Rattle.text.proofs.Buffers.{wrote-done, wrote-length}
-use Rattle.fault.specs.Fault.{readAll}
-use Rattle.pattern.specs.declared.Syntax.{Syntax}
 use Rattle.pattern.specs.Tree.{patternOf}
-use Rattle.pattern.specs.Contract.{expansionsIn}
 use Rattle.pattern.proofs.TopLevel.{numbers-are, never-full-at}
-use Rattle.condition.specs.Contract.{sortIn, judgeBy, addedBy}
-use Rattle.condition.specs.Condition.{alternativeRead}
+use Rattle.condition.specs.Contract.{addedWith, expansionsFrom}
 use Rattle.condition.specs.declared.condition.Added.the-variants.{Fault, Kept}
 use Rattle.condition.proofs.AddedLaws.{each, each-end}
 use Rattle.condition.proofs.condition.add_braced.Statement.{statement}
 use Rattle.condition.proofs.condition.add_braced.Tie as tie
 
-abbrev allAt : Syntax → List ℕ → ℕ → List (List ℕ)
-allAt syntax p at = expansionsIn (patternOf syntax false (drop at p))
-
 abbrev Inv-loop : tie.InvT-loop
-Inv-loop syntax minute asks negated judging p at number user groups host out₀ r₀ k₀ out r k = (length out ≡ 1024) × (number ≡ length (allAt syntax p at)) × (addedBy r (readAll (alternativeRead (judgeBy judging user groups host (minute .0)) negated (sortIn asks)) (drop k (allAt syntax p at))) ≡ addedBy r₀ (readAll (alternativeRead (judgeBy judging user groups host (minute .0)) negated (sortIn asks)) (allAt syntax p at)))
+Inv-loop syntax minute asks negated judging p at number user groups host out₀ r₀ k₀ out r k = (length out ≡ 1024) × (number ≡ length (expansionsFrom syntax p at)) × (addedWith judging user groups host minute negated asks r (drop k (expansionsFrom syntax p at)) ≡ addedWith judging user groups host minute negated asks r₀ (expansionsFrom syntax p at))
 
 abbrev μ-loop : tie.MeasureT-loop
 μ-loop syntax minute asks negated judging p at number user groups host out₀ r₀ k₀ out r k = number - k
 
 loop-holds : tie.Need-loop-holds Inv-loop μ-loop
-loop-holds c = (length-replicate {A = ℕ} 1024 0, numbers-are (patternOf (c .before .before .before .before .args .syntax) false (drop (c .before .before .before .before .args .at) (c .before .before .before .before .args .p .now))) _ (c .before .before .before .before .pre .2), refl)
+loop-holds c = let a = c .before .before .before .before .args in (length-replicate {A = ℕ} 1024 0, numbers-are (patternOf (a .syntax) false (drop (a .at) (a .p .now))) _ (c .before .before .before .before .pre .numbers), refl)
 
 slice-aggregate-put-alternative : tie.Need-slice-aggregate-put-alternative Inv-loop μ-loop
 slice-aggregate-put-alternative c = sym (c .before .before .loop .inv .0)
 
 put-alternative-requires : tie.Need-put-alternative-requires Inv-loop μ-loop
-put-alternative-requires c κs = search needs
+put-alternative-requires c κs = let h = c .before .before .before .before .before .before .before .pre in (h .within, h .numbers, h .few, c .before .loop-test .taken)
 
 enum-known-n : tie.Need-enum-known-n Inv-loop μ-loop
 enum-known-n c = search needs
@@ -62,7 +54,7 @@ loop-again : tie.Need-loop-again Inv-loop μ-loop
 loop-again c =
     let l = c .before .before .before .before .before .before .before .before .before .before .before .before .loop in
     let a = c .before .before .before .before .before .before .before .before .before .before .before .before .before .before .before .before .before .args in
-    (wrote-length (c .before .before .before .before .before .before .before .before .before .put-alternative .ensures) ∙ l .inv .0, l .inv .1, each _ _ (allAt (a .syntax) (a .p .now) (a .at)) (l .k) (omega (arith, l .inv .1)) (c .before .before .before .before .before .before .before .before .before .put-alternative .ensures) (c .before .before .before .before .before .before .n .given .1) (Kept _) (sym (c .before .next .given .1) ∙ c .before .before .before .add-one .ensures) ∙ l .inv .2)
+    (wrote-length (c .before .before .before .before .before .before .before .before .before .put-alternative .ensures) ∙ l .inv .0, l .inv .1, each _ _ (expansionsFrom (a .syntax) (a .p .now) (a .at)) (l .k) (omega (arith, l .inv .1)) (c .before .before .before .before .before .before .before .before .before .put-alternative .ensures) (c .before .before .before .before .before .before .n .given .1) (Kept _) (sym (c .before .next .given .1) ∙ c .before .before .before .add-one .ensures) ∙ l .inv .2)
 
 enum-known-cause : tie.Need-enum-known-cause Inv-loop μ-loop
 enum-known-cause c = search needs
@@ -71,7 +63,7 @@ returns : tie.Need-returns Inv-loop μ-loop
 returns c =
     let l = c .before .before .before .before .before .before .before .before .before .before .before .before .loop in
     let a = c .before .before .before .before .before .before .before .before .before .before .before .before .before .before .before .before .before .args in
-    each _ _ (allAt (a .syntax) (a .p .now) (a .at)) (l .k) (omega (arith, l .inv .1)) (c .before .before .before .before .before .before .before .before .before .put-alternative .ensures) (c .before .before .before .before .before .before .n .given .1) (Fault _) (sym (c .before .cause .given .1) ∙ c .before .before .before .add-one .ensures) ∙ l .inv .2
+    each _ _ (expansionsFrom (a .syntax) (a .p .now) (a .at)) (l .k) (omega (arith, l .inv .1)) (c .before .before .before .before .before .before .before .before .before .put-alternative .ensures) (c .before .before .before .before .before .before .n .given .1) (Fault _) (sym (c .before .cause .given .1) ∙ c .before .before .before .add-one .ensures) ∙ l .inv .2
 
 enum-told : tie.Need-enum-told Inv-loop μ-loop
 enum-told c = search needs
@@ -79,13 +71,14 @@ enum-told c = search needs
 returns-2 : tie.Need-returns-2 Inv-loop μ-loop
 returns-2 c =
     let a = c .before .before .before .before .before .before .before .before .before .before .before .args in
-    absurd (never-full-at (a .syntax) (a .p .now) (a .at) (a .number) (c .before .before .before .before .before .before .loop .k) (c .before .before .before .before .before .before .before .before .before .before .before .pre .2) (c .before .before .before .before .before .loop-test .taken) (c .before .before .before .put-alternative .ensures) (omega (arith, c .before .before .before .before .before .before .before .before .before .before .before .pre .0)) (c .enum-told .given .1))
+    let h = c .before .before .before .before .before .before .before .before .before .before .before .pre in
+    absurd (never-full-at (a .syntax) (a .p .now) (a .at) (a .number) (c .before .before .before .before .before .before .loop .k) (h .numbers) (c .before .before .before .before .before .loop-test .taken) (c .before .before .before .put-alternative .ensures) (omega (arith, h .short)) (c .enum-told .given .1))
 
 returns-3 : tie.Need-returns-3 Inv-loop μ-loop
 returns-3 c =
     let l = c .before .loop in
     let a = c .before .before .before .before .before .before .args in
-    each-end _ _ (allAt (a .syntax) (a .p .now) (a .at)) (l .k) (omega (arith, l .inv .1)) ∙ l .inv .2
+    each-end _ _ (expansionsFrom (a .syntax) (a .p .now) (a .at)) (l .k) (omega (arith, l .inv .1)) ∙ l .inv .2
 
 pub add-braced-spec : {M : Type 1} → statement M
 add-braced-spec =

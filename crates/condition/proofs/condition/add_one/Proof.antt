@@ -5,11 +5,6 @@ use mathlib.Core.Path.{sym, ap, _∙_}
 use borrow.Author.Needs.{needs}
 use Rattle.condition.proofs.condition.add_one.Statement.{statement}
 use Rattle.condition.proofs.condition.add_one.Tie as tie
-use Rattle.condition.proofs.condition.add_one.Reads as reads
-use Rattle.condition.proofs.condition.add_one.Lts as lts
-use Rattle.condition.proofs.condition.cause_for.Reads as cause-for-reads
-use Rattle.condition.proofs.judge.judge.Reads as judge-reads
-use Rattle.condition.proofs.rightmost.Rightmost.add.Reads as add-reads
 
 judge-requires : tie.Need-judge-requires
 judge-requires c κs = search needs

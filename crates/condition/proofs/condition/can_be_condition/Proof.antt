@@ -3,9 +3,6 @@ use mathlib.Core.Path.{sym, _∙_}
 use borrow.Author.Needs.{needs}
 use Rattle.condition.proofs.condition.can_be_condition.Statement.{statement}
 use Rattle.condition.proofs.condition.can_be_condition.Tie as tie
-use Rattle.condition.proofs.condition.can_be_condition.Reads as reads
-use Rattle.condition.proofs.condition.can_be_condition.Lts as lts
-use Rattle.text.proofs.slice.find_byte.Reads as find-byte-reads
 
 returns : tie.Need-returns
 returns c = rw (c .if1 .taken)

@@ -5,13 +5,6 @@ use mathlib.Core.Path.{sym, _∙_}
 use borrow.Author.Needs.{needs}
 use Rattle.condition.proofs.condition.read_behind.Statement.{statement}
 use Rattle.condition.proofs.condition.read_behind.Tie as tie
-use Rattle.condition.proofs.condition.read_behind.Reads as reads
-use Rattle.condition.proofs.condition.read_behind.Lts as lts
-use Rattle.condition.proofs.condition.add_alternatives.Reads as add-alternatives-reads
-use Rattle.condition.proofs.condition.can_be_condition.Reads as can-be-condition-reads
-use Rattle.condition.proofs.condition.kept_for.Reads as kept-for-reads
-use Rattle.condition.proofs.condition.told.Reads as told-reads
-use Rattle.condition.proofs.prefix.prefix_of.Reads as prefix-of-reads
 
 prefix-of-requires : tie.Need-prefix-of-requires
 prefix-of-requires c κs = search needs

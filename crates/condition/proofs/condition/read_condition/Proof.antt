@@ -5,37 +5,26 @@ use Rattle.condition.proofs.ReadLaws.{read-long, read-marked}
 use borrow.Author.Needs.{needs}
 use Rattle.condition.proofs.condition.read_condition.Statement.{statement}
 use Rattle.condition.proofs.condition.read_condition.Tie as tie
-use Rattle.condition.proofs.condition.read_condition.Reads as reads
-use Rattle.condition.proofs.condition.read_condition.Lts as lts
-use Rattle.condition.proofs.condition.read_behind.Reads as read-behind-reads
-use Rattle.text.proofs.slice.past_head.Reads as past-head-reads
 
--- src/condition.rt:342:9
 returns : tie.Need-returns
 unfolding judgeBy
 returns c = let a = c .before .before .before .before .before .args in read-long (judgeBy (a .judging) (a .user .now) (a .groups .now) (a .host .now) (a .minute .0)) (a .text .now) _ _ (c .if1 .taken)
 
--- src/condition.rt:344:9
 past-head-requires : tie.Need-past-head-requires
 past-head-requires c κs = search needs
 
--- src/condition.rt:351:9
 sub-read-behind : tie.Need-sub-read-behind
 sub-read-behind c = search needs
 
--- src/condition.rt:351:9
 part-read-behind-start : tie.Need-part-read-behind-start
 part-read-behind-start c = search needs
 
--- src/condition.rt:351:9
 part-read-behind-end : tie.Need-part-read-behind-end
 part-read-behind-end c = search needs
 
--- src/condition.rt:345:5
 read-behind-requires : tie.Need-read-behind-requires
 read-behind-requires c κs = search needs
 
--- src/condition.rt:329:1
 returns-2 : tie.Need-returns-2
 unfolding judgeBy
 returns-2 c = rw part-rest at (c .read-behind .ensures) ∙ read-marked _ _ _ _ (c .before .before .before .if1 .left) _ (c .before .before .past-head .ensures .0)

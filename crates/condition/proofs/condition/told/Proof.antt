@@ -1,8 +1,6 @@
 use borrow.Author.Needs.{needs}
 use Rattle.condition.proofs.condition.told.Statement.{statement}
 use Rattle.condition.proofs.condition.told.Tie as tie
-use Rattle.condition.proofs.condition.told.Reads as reads
-use Rattle.condition.proofs.condition.told.Lts as lts
 
 enum-known-added : tie.Need-enum-known-added
 enum-known-added c = search needs

@@ -7,12 +7,6 @@ use native.Mathlib.Omega.{arith}
 use borrow.Author.Needs.{needs}
 use Rattle.condition.proofs.judge.judge_name.Statement.{statement}
 use Rattle.condition.proofs.judge.judge_name.Tie as tie
-use Rattle.condition.proofs.judge.judge_name.Reads as reads
-use Rattle.condition.proofs.judge.judge_name.Lts as lts
-use Rattle.condition.proofs.judge.name_matches.Reads as name-matches-reads
-use Rattle.condition.proofs.judge.of_test.Reads as of-test-reads
-use Rattle.glob.proofs.alternative.part.Reads as part-reads
-use Rattle.glob.proofs.matcher.matches_expansion.Reads as matches-expansion-reads
 
 part-requires : tie.Need-part-requires
 part-requires c κs = search needs
@@ -41,20 +35,20 @@ name-matches-requires-2 c κs = search needs
 returns : tie.Need-returns
 returns c = name-misses _ _ _ _ _ _ _ _ ((rw (c .before .before .before .before .at .given .1) at (c .before .before .before .before .before .before .part .ensures)) .same) (sym (c .before .name-matches2 .ensures) ∙ not-true _ (c .if1 .taken))
 
-add-matches-expansion : tie.Need-add-matches-expansion
-add-matches-expansion c = let w = rw (c .before .before .before .before .at .given .1) at (c .before .before .before .before .before .before .part .ensures) in omega (arith, w .within)
+add-matches-one : tie.Need-add-matches-one
+add-matches-one c = let w = rw (c .before .before .before .before .at .given .1) at (c .before .before .before .before .before .before .part .ensures) in omega (arith, w .within)
 
-sub-matches-expansion : tie.Need-sub-matches-expansion
-sub-matches-expansion c = let w = rw (c .before .before .before .before .at .given .1) at (c .before .before .before .before .before .before .part .ensures) in omega (arith, w .within)
+sub-matches-one : tie.Need-sub-matches-one
+sub-matches-one c = let w = rw (c .before .before .before .before .at .given .1) at (c .before .before .before .before .before .before .part .ensures) in omega (arith, w .within)
 
-part-matches-expansion-start : tie.Need-part-matches-expansion-start
-part-matches-expansion-start c = let w = rw (c .before .before .before .before .at .given .1) at (c .before .before .before .before .before .before .part .ensures) in omega (arith, w .within)
+part-matches-one-start : tie.Need-part-matches-one-start
+part-matches-one-start c = let w = rw (c .before .before .before .before .at .given .1) at (c .before .before .before .before .before .before .part .ensures) in omega (arith, w .within)
 
-part-matches-expansion-end : tie.Need-part-matches-expansion-end
-part-matches-expansion-end c = let w = rw (c .before .before .before .before .at .given .1) at (c .before .before .before .before .before .before .part .ensures) in omega (arith, w .within)
+part-matches-one-end : tie.Need-part-matches-one-end
+part-matches-one-end c = let w = rw (c .before .before .before .before .at .given .1) at (c .before .before .before .before .before .before .part .ensures) in omega (arith, w .within)
 
-matches-expansion-requires : tie.Need-matches-expansion-requires
-matches-expansion-requires c κs = search needs
+matches-one-requires : tie.Need-matches-one-requires
+matches-one-requires c κs = search needs
 
 of-test-requires-2 : tie.Need-of-test-requires-2
 of-test-requires-2 c κs = search needs
@@ -66,7 +60,7 @@ returns-3 : tie.Need-returns-3
 returns-3 c = c .of-test .ensures ∙ name-alone _ _ _ _ _ _ ((rw (c .before .before .enum-told2 .given .1) at (c .before .before .before .before .part .ensures)) .same) _ (c .before .name-matches .ensures)
 
 returns-4 : tie.Need-returns-4
-returns-4 c = c .of-test2 .ensures ∙ name-host _ _ _ _ _ _ _ _ ((rw (c .before .before .before .before .before .before .before .at .given .1) at (c .before .before .before .before .before .before .before .before .before .part .ensures)) .same) (sym (c .before .before .before .before .name-matches2 .ensures) ∙ not-false _ (c .before .before .before .if1 .left)) _ (rw part-rest at (c .before .matches-expansion .ensures))
+returns-4 c = c .of-test2 .ensures ∙ name-host _ _ _ _ _ _ _ _ ((rw (c .before .before .before .before .before .before .before .at .given .1) at (c .before .before .before .before .before .before .before .before .before .part .ensures)) .same) (sym (c .before .before .before .before .name-matches2 .ensures) ∙ not-false _ (c .before .before .before .if1 .left)) _ (rw part-rest at (c .before .matches-one .ensures))
 
 pub judge-name-spec : {M : Type 1} → statement M
 judge-name-spec =
@@ -81,11 +75,11 @@ judge-name-spec =
     slice-aggregate-name-matches
     name-matches-requires-2
     returns
-    add-matches-expansion
-    sub-matches-expansion
-    part-matches-expansion-start
-    part-matches-expansion-end
-    matches-expansion-requires
+    add-matches-one
+    sub-matches-one
+    part-matches-one-start
+    part-matches-one-end
+    matches-one-requires
     of-test-requires-2
     returns-2
     returns-3

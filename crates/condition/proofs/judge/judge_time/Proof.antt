@@ -3,10 +3,6 @@ use mathlib.Core.Path.{sym, _∙_}
 use borrow.Author.Needs.{needs}
 use Rattle.condition.proofs.judge.judge_time.Statement.{statement}
 use Rattle.condition.proofs.judge.judge_time.Tie as tie
-use Rattle.condition.proofs.judge.judge_time.Reads as reads
-use Rattle.condition.proofs.judge.judge_time.Lts as lts
-use Rattle.condition.proofs.judge.of_test.Reads as of-test-reads
-use Rattle.times.proofs.item.item_answer.Reads as item-answer-reads
 
 item-answer-requires : tie.Need-item-answer-requires
 item-answer-requires c κs = search needs

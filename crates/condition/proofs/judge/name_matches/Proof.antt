@@ -3,10 +3,6 @@ use mathlib.Core.Path.{_∙_}
 use borrow.Author.Needs.{needs}
 use Rattle.condition.proofs.judge.name_matches.Statement.{statement}
 use Rattle.condition.proofs.judge.name_matches.Tie as tie
-use Rattle.condition.proofs.judge.name_matches.Reads as reads
-use Rattle.condition.proofs.judge.name_matches.Lts as lts
-use Rattle.condition.proofs.judge.some_group_matches.Reads as some-group-matches-reads
-use Rattle.glob.proofs.matcher.matches_expansion.Reads as matches-expansion-reads
 
 returns : tie.Need-returns
 returns c = applies-not _ (c .before .before .before .before .args .asks) _ _ _ (c .if1 .taken)
@@ -14,8 +10,8 @@ returns c = applies-not _ (c .before .before .before .before .args .asks) _ _ _ 
 enum-told : tie.Need-enum-told
 enum-told c = search needs
 
-matches-expansion-requires : tie.Need-matches-expansion-requires
-matches-expansion-requires c κs = search needs
+matches-one-requires : tie.Need-matches-one-requires
+matches-one-requires c κs = search needs
 
 enum-told-2 : tie.Need-enum-told-2
 enum-told-2 c = search needs
@@ -27,7 +23,7 @@ enum-told-3 : tie.Need-enum-told-3
 enum-told-3 c = search needs
 
 returns-2 : tie.Need-returns-2
-returns-2 c = c .matches-expansion .ensures ∙ applies-user _ _ _ _ _ (c .before .before .before .if1 .left) (c .before .enum-told .given .1)
+returns-2 c = c .matches-one .ensures ∙ applies-user _ _ _ _ _ (c .before .before .before .if1 .left) (c .before .enum-told .given .1)
 
 returns-3 : tie.Need-returns-3
 returns-3 c = c .some-group-matches .ensures ∙ applies-group _ _ _ _ _ (c .before .before .before .if1 .left) (c .before .enum-told2 .given .1)
@@ -41,7 +37,7 @@ name-matches-spec =
     (tie.spec
     returns
     enum-told
-    matches-expansion-requires
+    matches-one-requires
     enum-told-2
     some-group-matches-requires
     enum-told-3

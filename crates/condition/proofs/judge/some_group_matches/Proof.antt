@@ -9,10 +9,6 @@ use borrow.Author.Needs.{needs}
 use native.Mathlib.Omega.{arith}
 use Rattle.condition.proofs.judge.some_group_matches.Statement.{statement}
 use Rattle.condition.proofs.judge.some_group_matches.Tie as tie
-use Rattle.condition.proofs.judge.some_group_matches.Reads as reads
-use Rattle.condition.proofs.judge.some_group_matches.Lts as lts
-use Rattle.glob.proofs.matcher.matches_expansion.Reads as matches-expansion-reads
-use Rattle.question.proofs.strings.string_end.Reads as string-end-reads
 
 abbrev Inv-loop : tie.InvT-loop
 Inv-loop pattern groups from₀ from = any (matches pattern) (stringsIn (drop from groups)) ≡ any (matches pattern) (stringsIn groups)
@@ -29,20 +25,20 @@ string-end-requires c κs = search needs
 returns : tie.Need-returns Inv-loop μ-loop
 returns c = let l = c .before .before .before .loop in some-open _ (l .from) _ (c .before .string-end .ensures .0) _ (c .if1 .taken) ∙ l .inv
 
-sub-matches-expansion : tie.Need-sub-matches-expansion Inv-loop μ-loop
-sub-matches-expansion c = search needs
+sub-matches-one : tie.Need-sub-matches-one Inv-loop μ-loop
+sub-matches-one c = search needs
 
-part-matches-expansion-start : tie.Need-part-matches-expansion-start Inv-loop μ-loop
-part-matches-expansion-start c = search needs
+part-matches-one-start : tie.Need-part-matches-one-start Inv-loop μ-loop
+part-matches-one-start c = search needs
 
-part-matches-expansion-end : tie.Need-part-matches-expansion-end Inv-loop μ-loop
-part-matches-expansion-end c = let h = c .before .string-end .ensures .2 (omega arith) in omega (arith, h, c .before .string-end .ensures .1)
+part-matches-one-end : tie.Need-part-matches-one-end Inv-loop μ-loop
+part-matches-one-end c = let h = c .before .string-end .ensures .2 (omega arith) in omega (arith, h, c .before .string-end .ensures .1)
 
-matches-expansion-requires : tie.Need-matches-expansion-requires Inv-loop μ-loop
-matches-expansion-requires c κs = search needs
+matches-one-requires : tie.Need-matches-one-requires Inv-loop μ-loop
+matches-one-requires c κs = search needs
 
 returns-2 : tie.Need-returns-2 Inv-loop μ-loop
-returns-2 c = let l = c .before .before .before .before .before .before .loop in let e = c .before .before .before .before .string-end .ensures in let h = e .2 (omega arith) in some-hit _ (l .from) _ (e .0) _ (omega (arith, h, c .before .before .before .if1 .left)) (sym (c .before .matches-expansion .ensures) ∙ c .if2 .taken) ∙ l .inv
+returns-2 c = let l = c .before .before .before .before .before .before .loop in let e = c .before .before .before .before .string-end .ensures in let h = e .2 (omega arith) in some-hit _ (l .from) _ (e .0) _ (omega (arith, h, c .before .before .before .if1 .left)) (sym (c .before .matches-one .ensures) ∙ c .if2 .taken) ∙ l .inv
 
 add-from : tie.Need-add-from Inv-loop μ-loop
 add-from c = let h = c .before .before .before .before .string-end .ensures .2 (omega arith) in omega (arith, h, c .before .before .before .if1 .left)
@@ -51,7 +47,7 @@ loop-less : tie.Need-loop-less Inv-loop μ-loop
 loop-less c = search needs
 
 loop-again : tie.Need-loop-again Inv-loop μ-loop
-loop-again c = let l = c .before .before .before .before .before .before .loop in let e = c .before .before .before .before .string-end .ensures in let h = e .2 (omega arith) in some-on _ (l .from) _ (e .0) _ (omega (arith, h, c .before .before .before .if1 .left)) (sym (c .before .matches-expansion .ensures) ∙ c .if2 .left) ∙ l .inv
+loop-again c = let l = c .before .before .before .before .before .before .loop in let e = c .before .before .before .before .string-end .ensures in let h = e .2 (omega arith) in some-on _ (l .from) _ (e .0) _ (omega (arith, h, c .before .before .before .if1 .left)) (sym (c .before .matches-one .ensures) ∙ c .if2 .left) ∙ l .inv
 
 returns-3 : tie.Need-returns-3 Inv-loop μ-loop
 returns-3 c = let l = c .before .loop in some-end _ (l .from) _ (c .loop-test .left) ∙ l .inv
@@ -65,10 +61,10 @@ some-group-matches-spec =
     loop-holds
     string-end-requires
     returns
-    sub-matches-expansion
-    part-matches-expansion-start
-    part-matches-expansion-end
-    matches-expansion-requires
+    sub-matches-one
+    part-matches-one-start
+    part-matches-one-end
+    matches-one-requires
     returns-2
     add-from
     loop-less

@@ -9,7 +9,7 @@ past-head-requires : tie.Need-past-head-requires
 past-head-requires c κs = search needs
 
 returns : tie.Need-returns
-returns c = good-none _ _ (c .before .past-head .ensures .0) (c .if1 .taken)
+returns c = good-none _ _ _ (c .before .past-head .ensures .0) (c .if1 .taken)
 
 sub-in-order : tie.Need-sub-in-order
 sub-in-order c = search needs
@@ -24,7 +24,7 @@ in-order-requires : tie.Need-in-order-requires
 in-order-requires c κs = search needs
 
 returns-2 : tie.Need-returns-2
-returns-2 c = c .in-order .ensures ∙ rw part-rest (good-some _ _ (c .before .before .before .past-head .ensures .0) (c .before .before .if1 .left))
+returns-2 c = c .in-order .ensures ∙ rw part-rest (good-some _ _ _ (c .before .before .before .past-head .ensures .0) (c .before .before .if1 .left))
 
 pub good-set-spec : {M : Type 1} → statement M
 good-set-spec =

@@ -1,0 +1,3 @@
+pub mod FieldLaws
+pub mod MatchLaws
+pub mod AlternativeLaws
