@@ -14,10 +14,11 @@ use Rattle.question.specs.declared.WeekMinute.{WeekMinute}
 use Rattle.question.specs.declared.LastAuthentication.{LastAuthentication}
 use Rattle.question.proofs.ZeroEnded.{strings-in}
 use Rattle.question.proofs.Told.{question-told, question-some, question-none, good-told}
+use Rattle.table_lines.specs.Contract.{AskedWith}
 use Rattle.answer.specs.declared.Answer.the-variants.{MalformedQuestion, SmallBuffer}
 use Rattle.answer.specs.Answer.{Outcome, result}
 use Rattle.answer.specs.Meaning.{Asked, asks, readTable, answerOf}
-use Rattle.answer.specs.Contract.{asking, WholeOf, CutOf, AskedWith}
+use Rattle.answer.specs.Contract.{asking, Promised}
 use Rattle.answer.proofs.CutLaws.{promised}
 
 -- a good question has the parts that it was asked with
@@ -37,26 +38,19 @@ asked-with command user groups host minute last args {q} e =
       few = leb-true (length (q .args)) mostArguments (few .0);
     }
 
--- all that the call promises of an outcome
-abbrev pub Promised : List ℕ → Asked → List ℕ → Outcome → Type 0
-Promised t a b o = (o ≡ answerOf t a b) × WholeOf t a b o × CutOf t a b o
-
 module _ (t : List ℕ) (a : Asked) (b : List ℕ) where
-  all-promised : {o : Outcome} → o ≡ answerOf t a b → Promised t a b o
-  all-promised e = let p = promised t a b _ e in (e, p .0, p .1)
-
   pub call-small : length b < 2048 → Promised t a b (result SmallBuffer b)
   unfolding answerOf
-  call-small h = all-promised (rw (lt-leb 2048 (length b) h))
+  call-small h = promised t a b (rw (lt-leb 2048 (length b) h))
 
   module _ (r : 2048 ≤ length b) where
     pub call-malformed : asks a ≡ none → Promised t a b (result MalformedQuestion b)
     unfolding answerOf
-    call-malformed h = all-promised (rw (le-leb 2048 (length b) r, h))
+    call-malformed h = promised t a b (rw (le-leb 2048 (length b) r, h))
 
     pub call-read : {q : Question} → asks a ≡ some q → {o : Outcome} → o ≡ readTable t b (some q) → Promised t a b o
     unfolding answerOf
-    call-read g e = all-promised (e ∙ rw (le-leb 2048 (length b) r, g))
+    call-read g e = promised t a b (e ∙ rw (le-leb 2048 (length b) r, g))
 
 -- whether the check of the question passed
 module _ (command user groups host : List ℕ) (minute : WeekMinute) (last : LastAuthentication) (args : List ℕ) where

@@ -24,11 +24,12 @@ use Rattle.entry.specs.Verdict.{Verdict, permit, password, stoppedByNargs, stop
 use Rattle.reader.specs.State.{Decision, decidedAt, start}
 use Rattle.reader.specs.Read.{lineRead}
 use Rattle.reader.proofs.ReadLaws.{line-keeps}
+use Rattle.table_lines.specs.Lines.{linesGive}
 use Rattle.answer.specs.declared.Answer.the-variants.{NoEntry, CutShort, SmallBuffer}
 use Rattle.answer.specs.Answer.{leastBuffer, Outcome, result, grantIn, toldOf, toldBy, isDecision, decidingLine}
-use Rattle.answer.specs.Meaning.{Asked, asks, grantedBy, resolved, settled, linesGive, readBytes, readTable, answerOf}
+use Rattle.answer.specs.Meaning.{Asked, asks, grantedBy, resolved, settled, readBytes, readTable, answerOf}
 use Rattle.answer.specs.Cut.{nothingYet, cutAnswer, CutSafe}
-use Rattle.answer.specs.Contract.{WholeOf, CutOf}
+use Rattle.answer.specs.Contract.{Promised}
 
 -- ---- a decision stays, and is made at the line whose number it has
 at-line : (line : ℕ) (v : Option Verdict) (d : Decision) → Option·map (decidedAt line) v ≡ some d → d .line ≡ line
@@ -110,11 +111,12 @@ cut-safe t a b n l f =
     read (cut-asks n w) ∙ cut-gives t b n (w .question) l (linesGive (w .question) t) refl (rw (read w) at f) ∙ ap (cutAnswer t b n) (sym (read w))
 
 -- so an outcome that is the definition's is right as the whole one and as a cut one
-pub promised : (t : List ℕ) (a : Asked) (b : List ℕ) (o : Outcome) → o ≡ answerOf t a b → WholeOf t a b o × CutOf t a b o
-promised t a b o e = (
-  λ n l f. rw e (cut-safe t a b n l (ap isDecision (sym e) ∙ f)),
-  λ w n l h f. e ∙ ap (λ s. answerOf s a b) (sym h) ∙ cut-safe w a b n l f,
-)
+pub promised : (t : List ℕ) (a : Asked) (b : List ℕ) {o : Outcome} → o ≡ answerOf t a b → Promised t a b o
+promised t a b e = record {
+  meaning = e;
+  whole = λ n l f. rw e (cut-safe t a b n l (ap isDecision (sym e) ∙ f));
+  cut = λ w n l h f. e ∙ ap (λ s. answerOf s a b) (sym h) ∙ cut-safe w a b n l f;
+}
 
 -- a table that decides for an entry gives the same with any more bytes behind it, where those leave it a decision
 pub later-lines : (t u : List ℕ) (a : Asked) (b : List ℕ) → isDecision (answerOf t a b) ≡ true → eqb (toldBy (answerOf t a b) .number) 2 ≡ false → isDecision (answerOf (t ++ u) a b) ≡ true → answerOf (t ++ u) a b ≡ answerOf t a b

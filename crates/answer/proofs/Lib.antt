@@ -3,6 +3,5 @@ pub mod MeaningLaws
 pub mod Worked
 pub mod GrantLaws
 pub mod TableLaws
-pub mod ArmLaws
 pub mod CallLaws
 pub mod AlikeLaws

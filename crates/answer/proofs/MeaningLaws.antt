@@ -27,10 +27,11 @@ use Rattle.reader.specs.State.{Decision, start}
 use Rattle.reader.specs.Read.{lineRead}
 use Rattle.reader.proofs.ShortSettings.{ShortIds}
 use Rattle.reader.proofs.ShortIds.{ShortVerdict, ShortDecision, ShortState, short-start, short-keeps}
+use Rattle.table_lines.specs.Lines.{linesGive}
 use Rattle.answer.specs.declared.Answer.{Answer}
 use Rattle.answer.specs.declared.Answer.the-variants.{SmallBuffer}
 use Rattle.answer.specs.Answer.{leastBuffer, Outcome, result, Grant, Beside, Told, told, granted, atLine, atPlace, stringIn, grantIn, toldOf, toldBy}
-use Rattle.answer.specs.Meaning.{Asked, asks, ended, strings, timeoutTold, countTold, grantedBy, resolved, settled, linesGive, readBytes, readTable, answerOf}
+use Rattle.answer.specs.Meaning.{Asked, asks, ended, strings, timeoutTold, countTold, grantedBy, resolved, settled, readBytes, readTable, answerOf}
 use Rattle.answer.proofs.CutLaws.{Asks, read}
 
 -- the bytes that an answer tells as written: none but for 0 and 1

@@ -1,23 +1,20 @@
 -- What only contracts and proofs cite: demand 3 with a call's own result in it, and the steps of the call.
 use Prim.Native.Nat.{ℕ, _+_, _≤_}
 use mathlib.Core.Path.{_≡_}
-use mathlib.Core.Bool.{cond}
 use mathlib.Core.List.{List}
-use mathlib.Core.Option.{Option, none, some}
+use mathlib.Core.Option.{some}
 use lib.ListN.{length, take}
 use Rattle.text.specs.Buffer.{laid}
 use Rattle.question.specs.Question.{Question}
-use Rattle.question.specs.Contract.{stringsIn}
 use Rattle.question.specs.declared.WeekMinute.{WeekMinute}
 use Rattle.question.specs.declared.LastAuthentication.{LastAuthentication}
 use Rattle.options.specs.Options.{Options, idOr}
-use Rattle.options.specs.Contract.{optionsIn}
-use Rattle.entry.specs.Contract.{verdictIn}
-use Rattle.reader.specs.State.{Decision, decidedAt}
+use Rattle.table_lines.specs.Contract.{AskedWith}
+use Rattle.answer.specs.declared.Granted.{Granted}
+use Rattle.answer.specs.declared.Answer.{Answer}
 use Rattle.answer.specs.declared.grant.StringEnds.{StringEnds}
-use Rattle.answer.specs.declared.table.Decision.{Decision as Kept}
-use Rattle.answer.specs.Answer.{Outcome}
-use Rattle.answer.specs.Meaning.{Asked, ended, strings, answerOf}
+use Rattle.answer.specs.Answer.{Outcome, leastBuffer, result}
+use Rattle.answer.specs.Meaning.{Asked, ended, strings, grantedBy, readTable, answerOf}
 use Rattle.answer.specs.Cut.{CutAt}
 
 -- what is asked with these parts
@@ -32,6 +29,12 @@ WholeOf t a b o = (n : ℕ) → n ≤ length t → CutAt t b n o (answerOf (take
 -- o as the outcome of a cut: for every table w of which t is the beginning, o is what demand 3 says beside the outcome of w
 abbrev pub CutOf : List ℕ → Asked → List ℕ → Outcome → Type 0
 CutOf t a b o = (w : List ℕ) (n : ℕ) → n ≤ length w → take n w ≡ t → CutAt w b n (answerOf w a b) o
+
+-- all that the call promises of o
+pub record Promised (t : List ℕ) (a : Asked) (b : List ℕ) (o : Outcome) : Type 0 where
+  pub meaning : o ≡ answerOf t a b
+  pub whole : WholeOf t a b o
+  pub cut : CutOf t a b o
 
 -- ---- the steps
 -- a string was put from n on, with its zero byte, and r is the place behind it
@@ -48,17 +51,11 @@ pub record PutsAll (old new : List ℕ) (path : List ℕ) (o : Options) (r : Str
   pub afterGid : r .gid ≡ r .euid + length (ended (idOr (o .gid)))
   pub afterEgid : r .egid ≡ r .gid + length (ended (idOr (o .egid)))
 
--- the decision that the code keeps, with its path at the beginning of a buffer
-abbrev pub decidedIn : Kept → List ℕ → Option Decision
-decidedIn d path = cond (d .made) (some (decidedAt (d .line) (verdictIn (take (d .path) path) (optionsIn (d .options)) (d .verdict)))) none
+-- the five strings are at the beginning of the buffer, and this is told of them
+pub record Grants (line : ℕ) (path : List ℕ) (o : Options) (old new : List ℕ) (r : Granted) : Type 0 where
+  pub told : r ≡ grantedBy line path o
+  pub bytes : new ≡ laid old 0 (strings path o)
 
--- the parts that a question was asked with
-pub record AskedWith (q : Question) (command user groups host : List ℕ) (minute : WeekMinute) (last : LastAuthentication) (args : List ℕ) : Type 0 where
-  pub itsCommand : q .command ≡ command
-  pub itsUser : q .user ≡ user
-  pub itsGroups : q .groups ≡ stringsIn groups
-  pub itsHost : q .host ≡ host
-  pub itsMinute : q .minute ≡ minute .0
-  pub itsAge : q .age ≡ last
-  pub itsArgs : q .args ≡ stringsIn args
-  pub few : length (q .args) ≤ 64
+-- the answer of a table to whoever asks with these parts, and the buffer after it, where the buffer is long enough
+pub record ReadsTable (t command user groups host : List ℕ) (minute : WeekMinute) (last : LastAuthentication) (args old new : List ℕ) (r : Answer) : Type 0 where
+  pub reads : leastBuffer ≤ length old → (q : Question) → AskedWith q command user groups host minute last args → result r new ≡ readTable t old (some q)

@@ -12,16 +12,15 @@ use Rattle.fault.specs.declared.Cause.{Cause}
 use Rattle.question.specs.declared.WeekMinute.{WeekMinute}
 use Rattle.question.specs.declared.LastAuthentication.{LastAuthentication}
 use Rattle.question.specs.Question.{Question, questionOf}
-use Rattle.line.specs.Line.{backslash}
-use Rattle.line.specs.Fold.{Refusal, faulty, cut, outcome}
+use Rattle.line.specs.Fold.{Refusal, faulty, cut}
 use Rattle.line.specs.declared.whole.Acceptance.{Acceptance}
 use Rattle.line.specs.declared.whole.Acceptance.the-variants.{Accepted, Long, RefusedAt}
 use Rattle.line.specs.Whole.{acceptanceOf}
 use Rattle.text.specs.Class.{Range}
 use Rattle.options.specs.Options.{Options, authOr, idOr}
 use Rattle.entry.specs.Verdict.{Verdict, permit, password, stoppedByNargs, stoppedByArgument, stoppedByPath}
-use Rattle.reader.specs.State.{Decision, start}
-use Rattle.reader.specs.Read.{lineRead}
+use Rattle.reader.specs.State.{Decision}
+use Rattle.table_lines.specs.Lines.{linesGive}
 use Rattle.options.specs.declared.timeout.Timeout.{Timeout}
 use Rattle.options.specs.declared.timeout.Timeout.the-variants.{Unset, Minutes}
 use Rattle.options.specs.declared.span.Span.{Span}
@@ -85,10 +84,6 @@ settled b (fault (faulty c p)) = result (RefusedLine c p) b
 settled b (fault (cut p)) = result (CutShort p) b
 settled b (value none) = result NoEntry b
 settled b (value (some d)) = resolved b (d .line) (d .verdict)
-
--- what the control lines of a table give: the fold of `lineRead` over them, from the start
-abbrev pub linesGive : Question → List ℕ → Reading (Refusal Cause) (Option Decision)
-linesGive q t = outcome backslash (lineRead q) (λ s. s .decision) start t
 
 -- 11, then 12 (first such byte), then control lines in table order
 abbrev pub readBytes : List ℕ → Question → List ℕ → Acceptance → Outcome

@@ -4,10 +4,8 @@ use super::table::read_table;
 use question::LastAuthentication;
 use question::WeekMinute;
 use question::form::question_is_good;
-ghost use mathlib.Core.Path.{_≡_};
 ghost use Rattle.answer.specs.Answer.{result};
-ghost use Rattle.answer.specs.Meaning.{answerOf};
-ghost use Rattle.answer.specs.Contract.{asking, WholeOf, CutOf};
+ghost use Rattle.answer.specs.Contract.{asking, Promised};
 
 // The answer to a question from a table. Groups and arguments are zero-ended strings one after the other; the buffer is
 // changed by a permit only, with and without a password.
@@ -22,7 +20,7 @@ pub fn answer(
     args: &[u8],
     buffer: &mut [u8],
 ) -> Answer
-    ensures { λ r. ⌜ (result r (now (buffer .exit)) ≡ answerOf (now (table .entry)) (asking (now (command .entry)) (now (user .entry)) (now (groups .entry)) (now (host .entry)) minute last (now (args .entry))) (now (buffer .entry))) × WholeOf (now (table .entry)) (asking (now (command .entry)) (now (user .entry)) (now (groups .entry)) (now (host .entry)) minute last (now (args .entry))) (now (buffer .entry)) (result r (now (buffer .exit))) × CutOf (now (table .entry)) (asking (now (command .entry)) (now (user .entry)) (now (groups .entry)) (now (host .entry)) minute last (now (args .entry))) (now (buffer .entry)) (result r (now (buffer .exit))) ⌝ }
+    ensures { λ r. ⌜ Promised (now (table .entry)) (asking (now (command .entry)) (now (user .entry)) (now (groups .entry)) (now (host .entry)) minute last (now (args .entry))) (now (buffer .entry)) (result r (now (buffer .exit))) ⌝ }
 {
     if buffer.len() < Answer::BUFFER {
         return Answer::SmallBuffer;

@@ -82,7 +82,7 @@ fn put_strings(path: &[u8], options: OptionSet, out: &mut [u8]) -> StringEnds
 
 // The strings written into the buffer, and what is told of them.
 pub fn grant(line: usize, path: &[u8], options: OptionSet, out: &mut [u8]) -> Granted
-    ensures { λ r. ⌜ (2048 ≤ length (now (out .entry)) → length (now (path .entry)) ≤ 1024 → (r ≡ grantedBy line (now (path .entry)) (optionsIn options)) × (now (out .exit) ≡ laid (now (out .entry)) 0 (strings (now (path .entry)) (optionsIn options)))) ⌝ }
+    ensures { λ r. ⌜ (leastBuffer ≤ length (now (out .entry)) → length (now (path .entry)) ≤ pathLimit → Grants line (now (path .entry)) (optionsIn options) (now (out .entry)) (now (out .exit)) r) ⌝ }
 {
     let ends = put_strings(path, options, out);
     let auth = options.auth();

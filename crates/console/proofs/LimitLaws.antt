@@ -18,7 +18,7 @@ use Rattle.entry.specs.Verdict.{Verdict}
 use Rattle.reader.specs.State.{State, Decision, decidedAt, start}
 use Rattle.reader.specs.Read.{lineRead}
 use Rattle.reader.proofs.ReadLaws.{line-keeps}
-use Rattle.answer.specs.Meaning.{linesGive}
+use Rattle.table_lines.specs.Lines.{linesGive}
 
 -- ---- the lines of a table lie in it
 -- the bytes of lines, each with its newline

@@ -26,7 +26,8 @@ use Rattle.reader.specs.State.{Decision, start}
 use Rattle.reader.specs.Read.{lineRead}
 use Rattle.reader.proofs.ShortIds.{ShortVerdict, ShortState, short-start, short-keeps}
 use Rattle.answer.specs.Answer.{leastBuffer, Grant, Beside, granted, atLine, atPlace, Told, told, toldOf, toldBy}
-use Rattle.answer.specs.Meaning.{Asked, asks, linesGive, answerOf}
+use Rattle.table_lines.specs.Lines.{linesGive}
+use Rattle.answer.specs.Meaning.{Asked, asks, answerOf}
 use Rattle.answer.proofs.CutLaws.{Asks, read}
 use Rattle.answer.proofs.MeaningLaws.{verdictTold, decision-told}
 use Rattle.console.specs.QuestionLine.{askedIn}

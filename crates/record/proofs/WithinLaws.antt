@@ -24,8 +24,9 @@ use Rattle.reader.proofs.ShortIds.{ShortVerdict, ShortDecision, ShortState, sho
 use Rattle.reader.proofs.ShortSettings.{ShortIds}
 use Rattle.line.proofs.WithinLaws.{LineWithin, ReadWithin, outcome-within}
 use Rattle.line.proofs.WholeLaws.{accepted-short, refused-within}
+use Rattle.table_lines.specs.Lines.{linesGive}
 use Rattle.answer.specs.Answer.{leastBuffer, result}
-use Rattle.answer.specs.Meaning.{Asked, asks, grantedBy, resolved, settled, linesGive, readBytes, readTable, answerOf}
+use Rattle.answer.specs.Meaning.{Asked, asks, grantedBy, resolved, settled, readBytes, readTable, answerOf}
 use Rattle.answer.specs.declared.Granted.{Granted}
 use Rattle.answer.specs.declared.Answer.{Answer}
 use Rattle.answer.specs.declared.Answer.the-variants.{Permit, Password, NoEntry, StoppedByNargs, StoppedByArgument, StoppedByPath, MalformedQuestion, LongTable, RefusedByte, CutShort, RefusedLine, SmallBuffer}

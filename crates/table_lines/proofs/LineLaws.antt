@@ -4,7 +4,7 @@ use mathlib.Core.Bool.{Bool, true, false, not}
 use mathlib.Core.List.{List, []}
 use mathlib.Core.Option.{Option, none, some, orElse, Option·map}
 use Prim.Native.Nat.{ℕ, _+_, _≤_, _<_}
-use lib.ListN.{length, take, drop}
+use lib.ListN.{length, drop}
 use Rattle.text.proofs.Laws.{clash}
 use Rattle.fault.specs.Fault.{Reading, fault, value}
 use Rattle.fault.specs.declared.Cause.{Cause}
@@ -20,15 +20,12 @@ use Rattle.line.proofs.StepLaws.{lineAt, outcomeFrom, from-start, from-end, fro
 use Rattle.variables.specs.Scope.{Scope}
 use Rattle.variables.specs.Contract.{definitionsIn, definitionsOf, scopeIn}
 use Rattle.variables.specs.declared.Variables.{Variables}
-use Rattle.options.specs.Arguments.{ArgumentPattern}
-use Rattle.options.specs.Contract.{optionsIn, failures}
+use Rattle.options.specs.Contract.{optionsIn}
 use Rattle.condition.specs.Condition.{judgeOf}
-use Rattle.entry.specs.Field.{Entry}
-use Rattle.entry.specs.Entry.{entryOf, conditionsAccept}
-use Rattle.entry.specs.Path.{starred, pathFor}
+use Rattle.entry.specs.Entry.{entryOf}
+use Rattle.entry.specs.Path.{starred}
 use Rattle.entry.specs.Verdict.{verdictOf}
-use Rattle.entry.specs.Contract.{verdictIn}
-use Rattle.entry_line.specs.Contract.{textsIn}
+use Rattle.entry_line.specs.Contract.{textsIn, DecidesEntry}
 use Rattle.entry_line.specs.declared.decide.Decided.{Decided}
 use Rattle.reader.specs.State.{State, decidedAt, start, scopeOf, withDefinition, withSettings, withEntry}
 use Rattle.reader.specs.Colon.{defineLine, globalLine}
@@ -151,7 +148,7 @@ module _ {q : Question} {t : List ℕ} {v : Variables} {r : Reader} {d : CodeDec
         decided-scope = rw (k .itsUser, k .itsHost, f .variables)
 
         pub turn-decided : {w : Decided} {d′ : CodeDecision} {path′ : List ℕ} → d′ ≡ decidedBy number w
-            → ((p : Question) (ps : List ArgumentPattern) (x : Entry) → p .command ≡ command → p .user ≡ user → p .age ≡ last → p .args ≡ stringsIn args → length (p .args) ≤ 64 → r .failures .at ≡ failures ps (p .args) → entryOf (judgeOf user (stringsIn groups) host (minute .0)) scope (drop i (fieldsIn text ends n)) ≡ value x → pathFor (p .command) (x .pairs) ≡ some (starred (p .command) (drop place (textsIn scope (fieldsIn text ends n) index))) → conditionsAccept (p .user) x ≡ true → verdictOf p (optionsIn (r .options)) ps x ≡ some (verdictIn (take (w .path) path′) (optionsIn (w .options)) (w .verdict)))
+            → DecidesEntry (judgeOf user (stringsIn groups) host (minute .0)) scope (fieldsIn text ends n) i index place command user last (stringsIn args) (optionsIn (r .options)) (r .failures .at) path′ w
             → SoFar q t v r d′ path′ e (number + count)
         unfolding withEntry orElse
         turn-decided {w} {d′} {path′} made j =

@@ -13,6 +13,3 @@ use Rattle.reader.specs.Read.{lineRead}
 -- the fold of `lineRead` over the lines, from the start: the first fault, a line that is cut, or the decision
 abbrev pub linesGive : Question → List ℕ → Reading (Refusal Cause) (Option Decision)
 linesGive q t = outcome backslash (lineRead q) (λ s. s .decision) start t
-
-abbrev pub tableLimit : ℕ
-tableLimit = 32768

@@ -21,7 +21,7 @@ use variables::field::FieldText;
 ghost use Prim.Native.Nat.{_≤_};
 ghost use lib.ListN.{length};
 ghost use mathlib.Core.Path.{_≡_};
-ghost use Rattle.table_lines.specs.Lines.{tableLimit};
+ghost use Rattle.line.specs.Line.{tableLimit};
 ghost use Rattle.table_lines.specs.Contract.{ReadsLines, refusedBy};
 
 // The lines end at a faulty one.

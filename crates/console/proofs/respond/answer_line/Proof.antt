@@ -77,7 +77,7 @@ same-length : tie.Need-same-length
 same-length c = search needs
 
 returns-2 : tie.Need-returns-2
-returns-2 c = asked-told (c .before .before .before .before .before .before .before .before .before .before .before .before .before .before .read-question-line .ensures) _ _ (c .before .before .before .before .before .before .before .before .before .before .before .before .pieces .given .1) (c .before .before .answer .ensures .0)
+returns-2 c = asked-told (c .before .before .before .before .before .before .before .before .before .before .before .before .before .before .read-question-line .ensures) _ _ (c .before .before .before .before .before .before .before .before .before .before .before .before .pieces .given .1) (c .before .before .answer .ensures .meaning)
 
 pub answer-line-spec : {M : Type 1} → statement M
 answer-line-spec =
