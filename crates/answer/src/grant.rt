@@ -10,12 +10,12 @@ ghost use Prim.Native.Nat.{ℕ, _+_, _≤_, _<_};
 ghost use mathlib.Core.Path.{_≡_};
 ghost use mathlib.Core.List.{List};
 ghost use lib.ListN.{length};
-ghost use Rattle.text.specs.Buffer.{laid};
 ghost use Rattle.text.specs.Contract.{Wrote};
 ghost use Rattle.options.specs.Options.{idOr};
+ghost use Rattle.entry.specs.Path.{pathLimit};
 ghost use Rattle.options.specs.Contract.{idIn, idAt, optionsIn};
-ghost use Rattle.answer.specs.Meaning.{strings, grantedBy};
-ghost use Rattle.answer.specs.Contract.{Puts, PutsAll};
+ghost use Rattle.answer.specs.Answer.{leastBuffer};
+ghost use Rattle.answer.specs.Contract.{Puts, PutsAll, Grants};
 
 // Where each string ends in the buffer, just after its zero byte.
 struct StringEnds {

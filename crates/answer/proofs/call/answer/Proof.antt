@@ -25,7 +25,7 @@ same-length : tie.Need-same-length
 same-length c = search needs
 
 returns-3 : tie.Need-returns-3
-returns-3 c = let z = c .before .before .before .before .before .before .before .before .before .before .before .before .before .before .args in let q = asks-some (z .command .now) (z .user .now) (z .groups .now) (z .host .now) (z .minute) (z .last) (z .args .now) (c .before .before .before .before .before .question-is-good .ensures (z .last)) (not-false _ (c .before .before .before .before .if2 .left)) in call-read _ _ _ (c .before .before .before .before .before .before .if1 .left) (q .1) (c .before .before .read-table .ensures (c .before .before .before .before .before .before .if1 .left) (q .0) (asked-with (z .command .now) (z .user .now) (z .groups .now) (z .host .now) (z .minute) (z .last) (z .args .now) (q .1)))
+returns-3 c = let z = c .before .before .before .before .before .before .before .before .before .before .before .before .before .before .args in let q = asks-some (z .command .now) (z .user .now) (z .groups .now) (z .host .now) (z .minute) (z .last) (z .args .now) (c .before .before .before .before .before .question-is-good .ensures (z .last)) (not-false _ (c .before .before .before .before .if2 .left)) in call-read _ _ _ (c .before .before .before .before .before .before .if1 .left) (q .1) (c .before .before .read-table .ensures .reads (c .before .before .before .before .before .before .if1 .left) (q .0) (asked-with (z .command .now) (z .user .now) (z .groups .now) (z .host .now) (z .minute) (z .last) (z .args .now) (q .1)))
 
 pub answer-spec : {M : Type 1} → statement M
 answer-spec =

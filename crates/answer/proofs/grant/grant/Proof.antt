@@ -26,7 +26,7 @@ same-length c = search needs
 returns : tie.Need-returns
 returns c = λ g k.
     let p = c .before .before .before .before .before .before .put-strings .ensures g k in
-    (told-grant (c .before .before .before .before .before .before .before .before .before .before .args .line) p (c .before .before .or-default .ensures ∙ ap authOr (c .before .before .before .auth .ensures)) (c .before .timeout .ensures) (c .nargs .ensures), p .bytes)
+    record { told = told-grant (c .before .before .before .before .before .before .before .before .before .before .args .line) p (c .before .before .or-default .ensures ∙ ap authOr (c .before .before .before .auth .ensures)) (c .before .timeout .ensures) (c .nargs .ensures); bytes = p .bytes }
 
 pub grant-spec : {M : Type 1} → statement M
 grant-spec =

@@ -1,9 +1,15 @@
-use mathlib.Core.Path.{refl, sym, _∙_}
-use Rattle.line.proofs.WholeLaws.{accepted-short}
-use Rattle.answer.proofs.TableLaws.{table-by}
 use borrow.Author.Needs.{needs}
+use mathlib.Core.Path.{refl, sym, ap, _∙_}
+use Rattle.line.proofs.WholeLaws.{accepted-short}
+use Rattle.answer.specs.Meaning.{settled}
+use Rattle.answer.proofs.TableLaws.{table-by}
 use Rattle.answer.proofs.table.read_table.Statement.{statement}
 use Rattle.answer.proofs.table.read_table.Tie as tie
+use Rattle.answer.proofs.table.read_table.Reads as reads
+use Rattle.answer.proofs.table.read_table.Lts as lts
+use Rattle.answer.proofs.table.settle.Reads as settle-reads
+use Rattle.line.proofs.whole.acceptance_of.Reads as acceptance-of-reads
+use Rattle.table_lines.proofs.lines.read_lines.Reads as read-lines-reads
 
 acceptance-of-requires : tie.Need-acceptance-of-requires
 acceptance-of-requires c κs = search needs
@@ -20,17 +26,22 @@ enum-told-2 c = search needs
 read-lines-requires : tie.Need-read-lines-requires
 read-lines-requires c κs = accepted-short (c .before .before .before .before .before .before .before .before .before .before .before .args .table .now) (sym (c .before .before .before .acceptance-of .ensures) ∙ c .before .enum-told2 .given .1)
 
+settle-requires : tie.Need-settle-requires
+settle-requires c κs = search needs
+
 returns : tie.Need-returns
-returns c = let a = c .before .before .before .before .before .before .before .before .before .before .args in λ room q w. table-by (a .table .now) (a .buffer .now) q (sym (c .before .before .acceptance-of .ensures) ∙ c .enum-told .given .1) refl
+returns c = let a = c .before .before .before .before .before .before .before .before .before .before .args in record { reads = λ room q w. table-by (a .table .now) (a .buffer .now) q (sym (c .before .before .acceptance-of .ensures) ∙ c .enum-told .given .1) refl }
 
 returns-2 : tie.Need-returns-2
-returns-2 c = let a = c .before .before .before .before .before .before .before .before .before .before .before .args in λ room q w. table-by (a .table .now) (a .buffer .now) q (sym (c .before .before .before .acceptance-of .ensures) ∙ c .before .place .given .1) refl
+returns-2 c = let a = c .before .before .before .before .before .before .before .before .before .before .before .args in record { reads = λ room q w. table-by (a .table .now) (a .buffer .now) q (sym (c .before .before .before .acceptance-of .ensures) ∙ c .before .place .given .1) refl }
 
 same-length : tie.Need-same-length
 same-length c = search needs
 
 returns-3 : tie.Need-returns-3
-returns-3 c = let a = c .before .before .before .before .before .before .before .before .before .before .before .before .before .before .args in λ room q w. table-by (a .table .now) (a .buffer .now) q (sym (c .before .before .before .before .before .before .acceptance-of .ensures) ∙ c .before .before .before .before .enum-told2 .given .1) (c .before .before .read-lines .ensures room q w)
+returns-3 c =
+    let a = c .before .before .before .before .before .before .before .before .before .before .before .before .before .before .before .before .before .args in
+    record { reads = λ room q w. table-by (a .table .now) (a .buffer .now) q (sym (c .before .before .before .before .before .before .before .before .before .acceptance-of .ensures) ∙ c .before .before .before .before .before .before .before .enum-told2 .given .1) (c .before .before .settle .ensures room ∙ ap (settled (a .buffer .now)) (sym (c .before .before .before .before .before .read-lines .ensures .gives q w))) }
 
 pub read-table-spec : {M : Type 1} → statement M
 read-table-spec =
@@ -41,6 +52,7 @@ read-table-spec =
     enum-known-place
     enum-told-2
     read-lines-requires
+    settle-requires
     returns
     returns-2
     same-length

@@ -51,13 +51,13 @@ same-length : tie.Need-same-length
 same-length c = search needs
 
 returns-5 : tie.Need-returns-5
-returns-5 c = λ g. let k = c .before .before .before .before .before .before .before .at-most .ensures .1 in let t = length-take (c .before .before .before .before .before .before .before .at-most .result) (c .before .before .before .before .before .before .before .before .before .before .before .before .before .args .path .now) in let w = c .before .before .grant .ensures g (omega (arith, k, t)) in let l : length (c .before .before .before .before .before .before .before .before .before .before .before .before .before .args .path .now) ≡ 1024 = search needs in resolve-password _ (c .before .before .before .before .before .before .before .before .before .before .before .before .before .args .decision) (c .before .before .before .before .before .before .before .before .before .before .before .before .before .args .path .now) (not-false _ (c .before .before .before .before .before .before .before .before .before .before .if1 .left)) l (c .before .before .before .before .before .before .before .at-most .ensures .0) (w .0) (w .1) (c .before .before .before .before .enum-told4 .given .1)
+returns-5 c = λ g. let k = c .before .before .before .before .before .before .before .at-most .ensures .1 in let t = length-take (c .before .before .before .before .before .before .before .at-most .result) (c .before .before .before .before .before .before .before .before .before .before .before .before .before .args .path .now) in let w = c .before .before .grant .ensures g (omega (arith, k, t)) in let l : length (c .before .before .before .before .before .before .before .before .before .before .before .before .before .args .path .now) ≡ 1024 = search needs in resolve-password _ (c .before .before .before .before .before .before .before .before .before .before .before .before .before .args .decision) (c .before .before .before .before .before .before .before .before .before .before .before .before .before .args .path .now) (not-false _ (c .before .before .before .before .before .before .before .before .before .before .if1 .left)) l (c .before .before .before .before .before .before .before .at-most .ensures .0) w (c .before .before .before .before .enum-told4 .given .1)
 
 same-length-2 : tie.Need-same-length-2
 same-length-2 c = search needs
 
 returns-6 : tie.Need-returns-6
-returns-6 c = λ g. let k = c .before .before .before .before .before .before .before .at-most .ensures .1 in let t = length-take (c .before .before .before .before .before .before .before .at-most .result) (c .before .before .before .before .before .before .before .before .before .before .before .before .before .args .path .now) in let w = c .before .before .grant2 .ensures g (omega (arith, k, t)) in let l : length (c .before .before .before .before .before .before .before .before .before .before .before .before .before .args .path .now) ≡ 1024 = search needs in resolve-permit _ (c .before .before .before .before .before .before .before .before .before .before .before .before .before .args .decision) (c .before .before .before .before .before .before .before .before .before .before .before .before .before .args .path .now) (not-false _ (c .before .before .before .before .before .before .before .before .before .before .if1 .left)) l (c .before .before .before .before .before .before .before .at-most .ensures .0) (w .0) (w .1) (c .before .before .before .before .enum-told5 .given .1)
+returns-6 c = λ g. let k = c .before .before .before .before .before .before .before .at-most .ensures .1 in let t = length-take (c .before .before .before .before .before .before .before .at-most .result) (c .before .before .before .before .before .before .before .before .before .before .before .before .before .args .path .now) in let w = c .before .before .grant2 .ensures g (omega (arith, k, t)) in let l : length (c .before .before .before .before .before .before .before .before .before .before .before .before .before .args .path .now) ≡ 1024 = search needs in resolve-permit _ (c .before .before .before .before .before .before .before .before .before .before .before .before .before .args .decision) (c .before .before .before .before .before .before .before .before .before .before .before .before .before .args .path .now) (not-false _ (c .before .before .before .before .before .before .before .before .before .before .if1 .left)) l (c .before .before .before .before .before .before .before .at-most .ensures .0) w (c .before .before .before .before .enum-told5 .given .1)
 
 pub resolve-spec : {M : Type 1} → statement M
 resolve-spec =
