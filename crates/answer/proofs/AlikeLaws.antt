@@ -9,7 +9,7 @@ use borrow.Author.Tests.{lt-leb, leb-true, leb-false, eqb-true}
 use lib.Dec.{eqb, leb}
 use lib.ListN.{length, take, length-take}
 use lib.Seq.{take-all}
-use Rattle.text.proofs.Laws.{clash}
+use Rattle.text.proofs.Laws.{untrue}
 use Rattle.fault.specs.declared.Cause.{Cause}
 use Rattle.fault.specs.Fault.{numberOf}
 use Rattle.fault.proofs.Numbers.{above-decisions}
@@ -44,27 +44,24 @@ front-alike t a b = by (leb (length t) (tableLimit + 1)) refl
         long-alike (take (tableLimit + 1) t) t k (omega arith) b a
 
 -- ---- "no entry"
-no-two : {A : Type 0} → false ≡ true → A
-no-two e = clash cc
-
 cause-two : (c : Cause) → eqb (numberOf c) 2 ≡ true → leb (numberOf c) 5 ≡ true
 cause-two c e = rw (eqb-true (numberOf c) 2 e)
 
 -- 2 is the number of this answer alone
 only-none : (x : Answer) (b : List ℕ) → eqb (toldOf x b .number) 2 ≡ true → x ≡ NoEntry
 unfolding toldOf
-only-none (Permit g) b e = no-two e
-only-none (Password g) b e = no-two e
+only-none (Permit g) b e = untrue e
+only-none (Password g) b e = untrue e
 only-none NoEntry b e = refl
-only-none (StoppedByNargs l) b e = no-two e
-only-none (StoppedByArgument l) b e = no-two e
-only-none (StoppedByPath l) b e = no-two e
-only-none MalformedQuestion b e = no-two e
-only-none LongTable b e = no-two e
-only-none (RefusedByte p) b e = no-two e
-only-none (CutShort p) b e = no-two e
-only-none (RefusedLine c p) b e = no-two (sym (above-decisions c) ∙ cause-two c e)
-only-none SmallBuffer b e = no-two e
+only-none (StoppedByNargs l) b e = untrue e
+only-none (StoppedByArgument l) b e = untrue e
+only-none (StoppedByPath l) b e = untrue e
+only-none MalformedQuestion b e = untrue e
+only-none LongTable b e = untrue e
+only-none (RefusedByte p) b e = untrue e
+only-none (CutShort p) b e = untrue e
+only-none (RefusedLine c p) b e = untrue (sym (above-decisions c) ∙ cause-two c e)
+only-none SmallBuffer b e = untrue e
 
 none-leaves : {b : List ℕ} {o : Outcome} → Leaves b o → o .answer ≡ NoEntry → o ≡ result NoEntry b
 unfolding toldOf

@@ -8,7 +8,7 @@ use native.Mathlib.Omega.{arith}
 use lib.Dec.{eqb, leb}
 use lib.ListN.{length, take, length-append}
 use lib.Seq.{take-at}
-use Rattle.text.proofs.Laws.{clash}
+use Rattle.text.proofs.Laws.{clash, untrue}
 use Rattle.fault.specs.declared.Cause.{Cause}
 use Rattle.fault.specs.Fault.{Reading, fault, value}
 use Rattle.fault.proofs.Numbers.{above-decisions}
@@ -44,9 +44,6 @@ decides q = record {
 }
 
 -- ---- where a table gives a decision, every check before the control lines has passed
-no-decision : {A : Type 0} → false ≡ true → A
-no-decision e = clash cc
-
 pub record Asks (t : List ℕ) (a : Asked) (b : List ℕ) : Type 0 where
   pub question : Question
   pub room : leb leastBuffer (length b) ≡ true
@@ -59,16 +56,16 @@ asked t a b e = room (leb leastBuffer (length b)) refl e
   where
     bytes : (q : Question) → leb leastBuffer (length b) ≡ true → asks a ≡ some q → (x : Acceptance) → acceptanceOf t ≡ x → isDecision (readBytes t q b x) ≡ true → Asks t a b
     bytes q r g Accepted h f = record { question = q; room = r; good = g; accepted = h }
-    bytes q r g Long h f = no-decision f
-    bytes q r g (RefusedAt p) h f = no-decision f
+    bytes q r g Long h f = untrue f
+    bytes q r g (RefusedAt p) h f = untrue f
 
     good : leb leastBuffer (length b) ≡ true → (o : Option Question) → asks a ≡ o → isDecision (readTable t b o) ≡ true → Asks t a b
-    good r none h f = no-decision f
+    good r none h f = untrue f
     good r (some q) h f = bytes q r h (acceptanceOf t) refl f
 
     room : (x : Bool) → leb leastBuffer (length b) ≡ x → isDecision (cond x (readTable t b (asks a)) (result SmallBuffer b)) ≡ true → Asks t a b
     room true h f = good h (asks a) refl f
-    room false h f = no-decision f
+    room false h f = untrue f
 
 -- then the answer is what the control lines give
 pub read : {t : List ℕ} {a : Asked} {b : List ℕ} (w : Asks t a b) → answerOf t a b ≡ settled b (linesGive (w .question) t)
@@ -98,8 +95,8 @@ not-two b line stoppedByPath = refl
 -- ---- the cut table, by what the whole one gives
 cut-gives : (t b : List ℕ) (n : ℕ) (q : Question) → n ≤ length t → (r : Reading (Refusal Cause) (Option Decision)) → linesGive q t ≡ r → isDecision (settled b r) ≡ true → settled b (linesGive q (take n t)) ≡ cutAnswer t b n (settled b r)
 unfolding cutAnswer nothingYet isDecision toldOf start
-cut-gives t b n q l (fault (faulty c p)) e f = no-decision (sym (above-decisions c) ∙ f)
-cut-gives t b n q l (fault (cut p)) e f = no-decision f
+cut-gives t b n q l (fault (faulty c p)) e f = untrue (sym (above-decisions c) ∙ f)
+cut-gives t b n q l (fault (cut p)) e f = untrue f
 cut-gives t b n q l (value o) e f =
     cuts-told (lineRead q) (λ s. s .decision) (λ d. d .line) (decides q) (settled b) (λ w. eqb (toldBy w .number) 2) decidingLine (λ d. not-two b (d .line) (d .verdict)) (λ d. line-told b (d .line) (d .verdict)) backslash start refl t n l o e
 
@@ -128,5 +125,5 @@ later-lines t u a b d e f =
   where
     by : (x y : Bool) → answerOf t a b ≡ cond x (cond y (result NoEntry b) (answerOf (t ++ u) a b)) (result (CutShort (cutPlace backslash (t ++ u) (length t))) b) → cond x (cond y (result NoEntry b) (answerOf (t ++ u) a b)) (result (CutShort (cutPlace backslash (t ++ u) (length t))) b) ≡ answerOf (t ++ u) a b
     by true false h = refl
-    by true true h = no-decision (sym e ∙ ap (λ o. eqb (toldBy o .number) 2) h)
-    by false y h = no-decision (sym (ap isDecision h) ∙ d)
+    by true true h = untrue (sym e ∙ ap (λ o. eqb (toldBy o .number) 2) h)
+    by false y h = untrue (sym (ap isDecision h) ∙ d)

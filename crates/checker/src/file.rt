@@ -1,5 +1,6 @@
 // The bytes of a table or another file of its size, whole.
 use libc::STDIN_FILENO;
+use line::whole::WholeText;
 use streams::identity::Identity;
 use streams::identity::identify;
 use streams::input::Loaded;
@@ -7,15 +8,17 @@ use streams::input::load_name;
 use streams::input::read_all;
 use streams::message;
 use text::slice::equal;
+ghost use Prim.Native.Nat.{_+_};
 ghost use mathlib.Core.Path.{_≡_};
 ghost use lib.ListN.{length};
+ghost use Rattle.line.specs.Line.{tableLimit};
 ghost use Rattle.streams.specs.Contract.{LoadedIn};
 
 // One byte more than the file may have, which is enough to see that it is too long.
-pub fn file_buffer() -> [u8; 32769]
-    ensures { λ r. ⌜ 32769 ≡ length r ⌝ }
+pub fn file_buffer() -> [u8; WholeText::BYTES + 1]
+    ensures { λ r. ⌜ tableLimit + 1 ≡ length r ⌝ }
 {
-    [0; 32769]
+    [0; WholeText::BYTES + 1]
 }
 
 // The bytes of an open file, as many as there is room for; a failure is told.

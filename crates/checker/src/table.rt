@@ -4,6 +4,7 @@ use super::file::load_named;
 use super::report::print_filled;
 use super::report::report_buffer;
 use answer::Answer;
+use console::question_line::QuestionLine;
 use console::respond::answer_line;
 use explain::report::explain;
 use streams::argument::argument;
@@ -11,16 +12,18 @@ use streams::input::Loaded;
 use streams::input::load_name;
 use streams::message;
 use streams::standard_output::Output;
+ghost use Prim.Native.Nat.{_+_};
 ghost use mathlib.Core.Path.{_≡_};
 ghost use lib.ListN.{length};
+ghost use Rattle.console.specs.QuestionLine.{lineLimit};
 ghost use Rattle.explain.specs.Explained.{explained};
 ghost use Rattle.checker.specs.Contract.{Reports};
 
 // One byte more than a question line may have.
-fn question_buffer() -> [u8; 32769]
-    ensures { λ r. ⌜ 32769 ≡ length r ⌝ }
+fn question_buffer() -> [u8; QuestionLine::BYTES + 1]
+    ensures { λ r. ⌜ lineLimit + 1 ≡ length r ⌝ }
 {
-    [0; 32769]
+    [0; QuestionLine::BYTES + 1]
 }
 
 // Hands on what was found in a table that was asked this question.

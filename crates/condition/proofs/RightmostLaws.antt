@@ -1,29 +1,20 @@
 -- What is kept of the alternatives is what the rule asks of them; the rule over two runs, one behind the other.
-use mathlib.Core.Path.{_≡_, refl, ap, _∙_}
+use mathlib.Core.Path.{_≡_, refl, sym, ap, _∙_}
 use mathlib.Core.Bool.{Bool, true, false, not, cond, _&&_, _||_}
 use mathlib.Core.List.{List, [], _∷_, _++_}
 use mathlib.Core.Option.{Option, none, some, orElse, Option·getD}
 use Rattle.text.specs.Lists.{all, null}
-use Rattle.text.proofs.Laws.{both-assoc}
+use Rattle.text.proofs.Laws.{both-assoc, else-assoc, else-none}
 use Rattle.condition.specs.declared.rightmost.Rightmost.{Rightmost}
 use Rattle.condition.specs.Rightmost.{Judged, saidBy, rightmost}
 use Rattle.condition.specs.Times.{timesAccept}
 use Rattle.condition.specs.Contract.{noneKept, added, addedAll, saysOr}
 
-or-assoc : {A : Type 0} (a b c : Option A) → orElse (orElse a b) c ≡ orElse a (orElse b c)
-unfolding orElse
-or-assoc none b c = refl
-or-assoc (some x) b c = refl
-
 -- "The rightmost alternative that applies decides": the right run where any of it applies, else the left
 pub rightmost-append : (xs ys : List Judged) → rightmost (xs ++ ys) ≡ orElse (rightmost ys) (rightmost xs)
-unfolding rightmost orElse
-rightmost-append [] ys = or-none (rightmost ys)
-  where
-    or-none : (o : Option Bool) → o ≡ orElse o none
-    or-none none = refl
-    or-none (some b) = refl
-rightmost-append (x ∷ xs) ys = rw (rightmost-append xs ys) (or-assoc (rightmost ys) (rightmost xs) (saidBy x))
+unfolding rightmost
+rightmost-append [] ys = sym (else-none (rightmost ys))
+rightmost-append (x ∷ xs) ys = rw (rightmost-append xs ys) (else-assoc (rightmost ys) (rightmost xs) (saidBy x))
 
 -- what is kept after some alternatives: what it says, whether all are negated, and whether there is any
 pub record Keeps (r t : Rightmost) (xs : List Judged) : Type 0 where

@@ -7,12 +7,12 @@ use Prim.Native.Nat.{ℕ, suc, _+_, _≤_}
 use native.Mathlib.Omega.{arith}
 use lib.ListN.{length}
 use Rattle.text.specs.Bytes.{is}
-use Rattle.text.specs.Lists.{count}
+use Rattle.text.specs.Lists.{count, withByte}
 use Rattle.text.proofs.Laws.{clash}
 use Rattle.fault.specs.Fault.{Reading, fault, value, andThen, require}
 use Rattle.fault.specs.declared.Cause.{Cause}
 use Rattle.question.specs.Question.{Question}
-use Rattle.line.specs.Line.{backslash, withByte, endsLine, endedLines, cutShort, Line, newlines, placed, linesOf, lastEnd}
+use Rattle.line.specs.Line.{backslash, endsLine, endedLines, cutShort, Line, newlines, placed, linesOf, lastEnd}
 use Rattle.line.specs.Fold.{Refusal, faulty, cut, located, run, outcome}
 use Rattle.entry.specs.Verdict.{Verdict}
 use Rattle.reader.specs.State.{State, Decision, decidedAt, start}

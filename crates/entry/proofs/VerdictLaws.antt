@@ -1,18 +1,16 @@
 -- The deciding entry's settings one after the other, and its verdict.
-use mathlib.Core.Path.{_≡_, refl, sym, ap, _∙_}
+use mathlib.Core.Path.{_≡_, sym, ap, _∙_}
 use mathlib.Core.Bool.{Bool, true, false}
 use mathlib.Core.List.{List, [], _∷_, _++_, append-nil, append-assoc}
 use mathlib.Core.Option.{Option}
-use Prim.Native.Nat.{ℕ, _+_, _-_, _≤_}
+use Prim.Native.Nat.{ℕ, _≤_}
 use native.Mathlib.Omega.{arith}
 use borrow.Author.Tests.{lt-ltb, le-ltb}
-use lib.ListN.{length, drop, length-take, length-drop}
+use lib.ListN.{length}
 use lib.IntN.{ℤ}
 use Rattle.text.specs.Class.{Range}
 use Rattle.text.specs.Lists.{any}
-use Rattle.text.specs.Contract.{findByte, filledTo}
-use Rattle.text.specs.declared.slice.Found.{Found}
-use Rattle.text.specs.declared.slice.Found.the-variants.{At, Nothing}
+use Rattle.text.specs.Contract.{filledTo}
 use Rattle.text.specs.declared.buffer.Filled.the-variants.{Full, Done}
 use Rattle.text.proofs.Buffers.{up-full, up-done}
 use Rattle.fault.specs.Fault.{Reading}
@@ -26,20 +24,13 @@ use Rattle.options.specs.Read.{Setting, argumentsOf}
 use Rattle.options.specs.Contract.{optionsIn, valueIn, settingIn, failures, failuresAfter}
 use Rattle.options.specs.declared.setting.OptionSetting.{OptionSetting}
 use Rattle.options.proofs.LineLaws.{options-more, arguments-more}
-use Rattle.options.proofs.ReadLaws.{value-none, value-found}
+use Rattle.options.proofs.ReadLaws.{value-length}
 use Rattle.options.proofs.ArgumentLaws.{failures-more, arguments-pass}
 use Rattle.entry.specs.declared.own.Own.{Own}
 use Rattle.entry.specs.Verdict.{verdictOn, permit, password, stoppedByNargs, stoppedByArgument, stoppedByPath}
 use Rattle.entry.specs.Contract.{settingsIn, Sums}
 
 -- ---- settings
-value-short : (t : List ℕ) → length (valueIn t) ≤ length t
-value-short t = go (findByte 61 0 t) refl
-  where
-    go : (o : Found) → findByte 61 0 t ≡ o → length (valueIn t) ≤ length t
-    go Nothing e = rw (← (value-none t e)) (omega arith)
-    go (At i) e = rw (← (value-found t e)) (omega (arith, length-take (length t - (i + 1)) (drop (i + 1) t), length-drop (i + 1) t))
-
 module _ {ps : List ArgumentPattern} {xs : List (List ℕ)} {o : Own} {ss : List Setting} where
   pub sums-same : Sums ps xs o ss → Sums ps xs o (ss ++ [])
   sums-same h = rw (append-nil ss) h
@@ -48,7 +39,7 @@ module _ {ps : List ArgumentPattern} {xs : List (List ℕ)} {o : Own} {ss : List
       → Sums ps xs r (ss ++ (settingIn (valueIn t) s ∷ []))
   unfolding inForce
   sums-more {r} t s {v} l q h e f =
-      let short : length v ≤ 1024 = rw q (omega (arith, value-short t)) in
+      let short : length v ≤ 1024 = rw q (omega (arith, value-length t)) in
       rw (← q)
       (record {
         options = e ∙ rw (h .options) (sym (options-more ss (settingIn v s)));

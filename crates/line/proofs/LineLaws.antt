@@ -8,10 +8,9 @@ use native.Mathlib.Decide.{decLe}
 use borrow.Author.Tests.{le-leb, lt-leb, le-ltb, lt-ltb, eqb-true, eqb-false}
 use lib.Dec.{eqb, ltb}
 use lib.ListN.{length, take, length-take}
-use Rattle.text.specs.Bytes.{is}
-use Rattle.text.specs.Lists.{any}
+use Rattle.text.specs.Lists.{any, withByte}
 use Rattle.text.proofs.Laws.{clash, either-false}
-use Rattle.line.specs.Line.{Line, endsLine, withByte, endedLines, lastEnds, cutShort, newlines, placed, linesOf, notAbove, lastEnd, cutPlace, endsAt}
+use Rattle.line.specs.Line.{Line, endsLine, endedLines, lastEnds, cutShort, newlines, placed, linesOf, notAbove, lastEnd, cutPlace, endsAt}
 
 -- ---- places and numbers rise
 -- each line ends above e, has a number not below k, and the next one follows both

@@ -6,7 +6,8 @@ use Prim.Native.Nat.{ℕ}
 use borrow.Author.Tests.{eqb-true}
 use Rattle.text.specs.Bytes.{is}
 use Rattle.text.proofs.Laws.{both-true}
-use Rattle.line.specs.Line.{endsLine, withByte, endedLines, putLines}
+use Rattle.text.specs.Lists.{withByte}
+use Rattle.line.specs.Line.{endsLine, endedLines, putLines}
 
 -- for bytes that continue a line over a newline, of which a newline is none
 module _ (continues : ℕ → Bool) (plain : continues 10 ≡ false) where

@@ -8,6 +8,7 @@ use lib.Dec.{eqb}
 use lib.IntN.{ℤ}
 use lib.ListN.{take}
 use Rattle.text.specs.Class.{range}
+use Rattle.text.proofs.Laws.{else-assoc, else-none}
 use Rattle.question.specs.Password.{passwordNeeded}
 use Rattle.question.specs.declared.LastAuthentication.{LastAuthentication}
 use Rattle.options.specs.Options.{Options, noOptions, over}
@@ -27,17 +28,6 @@ use mir.Syntax.{w32}
 use mir.Val.{SFits, toZ, ofZ}
 use mir.ValLaws.{toZ-ofZ}
 use Rattle.options.specs.declared.timeout.Timeout.the-variants.{Unset as NoTimeout, Minutes}
-
-module _ {A : Type 0} where
-  else-assoc : (a b c : Option A) → orElse (orElse a b) c ≡ orElse a (orElse b c)
-  unfolding orElse
-  else-assoc none b c = refl
-  else-assoc (some x) b c = refl
-
-  else-none : (a : Option A) → orElse a none ≡ a
-  unfolding orElse
-  else-none none = refl
-  else-none (some x) = refl
 
 -- how the options are grouped does not matter
 pub over-assoc : (a b c : Options) → over (over a b) c ≡ over a (over b c)

@@ -9,12 +9,12 @@ use native.Mathlib.Omega.{arith}
 use borrow.Author.Tests.{ne-eqb, le-leb, lt-leb}
 use lib.Dec.{eqb, leb}
 use lib.ListN.{length, take, drop, drop-of-length-le}
-use Rattle.text.specs.Lists.{null, all, any}
+use Rattle.text.specs.Lists.{null, all, any, withByte}
 use Rattle.text.specs.Contract.{lead}
 use Rattle.text.proofs.Laws.{next, both-no}
 use Rattle.text.proofs.Leads.{by-lead, by-none, lead-past, from-place}
 use Rattle.question.specs.Strings.{inFront, stringsOf}
-use Rattle.question.specs.Contract.{into, stringsIn, whenStrings}
+use Rattle.question.specs.Contract.{stringsIn, whenStrings}
 use Rattle.question.specs.Question.{goodStrings}
 
 -- a string in front of strings
@@ -53,7 +53,7 @@ unfolding stringsIn
 in-cut = by-none 0 (λ s. stringsIn s ≡ []) refl (λ b s d p. rw (ne-eqb b 0 d, p))
 
 -- the strings of a good list are the strings of it
-in-front : (b : ℕ) (t : Bool) (o : Option (List (List ℕ))) (qs ps : List (List ℕ)) → ((rs : List (List ℕ)) → o ≡ some rs → qs ≡ rs) → inFront b t o ≡ some ps → into b t qs ≡ ps
+in-front : (b : ℕ) (t : Bool) (o : Option (List (List ℕ))) (qs ps : List (List ℕ)) → ((rs : List (List ℕ)) → o ≡ some rs → qs ≡ rs) → inFront b t o ≡ some ps → withByte t b qs ≡ ps
 in-front b t none qs ps f e = cc
 in-front b true (some rs) qs ps f e = let q : qs ≡ rs = f rs refl in let p : [] ∷ rs ≡ ps = cc in rw q p
 in-front b false (some []) qs ps f e = cc

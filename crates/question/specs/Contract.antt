@@ -5,6 +5,7 @@ use mathlib.Core.List.{List, [], _∷_}
 use mathlib.Core.Option.{Option, none, some}
 use lib.Dec.{eqb}
 use Rattle.text.specs.Contract.{lead}
+use Rattle.text.specs.Lists.{withByte}
 use Rattle.question.specs.Question.{Question, userBytes, mostGroups, mostArguments, goodName, goodArgument}
 use Rattle.question.specs.declared.form.Listed.{Listed}
 use Rattle.question.specs.declared.form.Listed.the-variants.{Groups, Arguments}
@@ -29,16 +30,10 @@ abbrev pub isQuestion : Option Question → Bool
 isQuestion none = false
 isQuestion (some q) = true
 
--- the byte in front of the first string, if there is one
-abbrev pub into : ℕ → Bool → List (List ℕ) → List (List ℕ)
-into b true ps = [] ∷ ps
-into b false [] = []
-into b false (p ∷ ps) = (b ∷ p) ∷ ps
-
 -- the strings of any list, bytes behind the last zero left out; where `stringsOf` is something, the same strings
 unfoldable pub stringsIn : List ℕ → List (List ℕ)
 stringsIn [] = []
-stringsIn (b ∷ s) = into b (eqb b 0) (stringsIn s)
+stringsIn (b ∷ s) = withByte (eqb b 0) b (stringsIn s)
 
 -- how many bytes stand before the first zero, or before the end
 abbrev pub untilZero : List ℕ → ℕ

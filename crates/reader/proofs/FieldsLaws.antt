@@ -9,12 +9,9 @@ use Rattle.fault.specs.Fault.{Reading, fault, value, andThen}
 use Rattle.fault.specs.declared.Cause.{Cause}
 use Rattle.line.specs.Contract.{fieldsIn}
 use Rattle.line.proofs.AccessLaws.{fields-count}
-use Rattle.variables.specs.Scope.{Scope}
-use Rattle.variables.specs.Substitute.{fieldText}
-use Rattle.variables.specs.Contract.{textReading, lengthTold, checkedReading, Substitutes}
+use Rattle.variables.specs.Contract.{textReading, lengthTold, checkedReading}
 use Rattle.variables.specs.declared.definition.Checked.{Checked}
 use Rattle.variables.specs.declared.field.FieldText.{FieldText}
-use Rattle.variables.proofs.TextLaws.{text-fault, text-value, text-fits}
 use Rattle.variables.specs.declared.definition.Checked.the-variants.{Good, Fault as NotGood}
 use Rattle.variables.specs.declared.field.FieldText.the-variants.{Text, Fault as NoText}
 
@@ -27,18 +24,6 @@ module _ (text ends : List ℕ) (count : ℕ) {m : ℕ} (e : m ≡ min count 64)
   -- before that there is the field that `field` gives, and those behind it
   pub fields-next : {f : List ℕ} → i < m → f ≡ getD (fieldsIn text ends count) i [] → drop i (fieldsIn text ends count) ≡ f ∷ drop (i + 1) (fieldsIn text ends count)
   fields-next h g = let k : i < length (fieldsIn text ends count) = omega (arith, fields-count text ends count) in rw g (next-of [] (fieldsIn text ends count) i k)
-
--- what an answer tells of a field's text
-module _ {sc : Scope} {f old new : List ℕ} {r : FieldText} (w : Substitutes sc f old new r) where
-  pub told-fault : {c : Cause} → r ≡ NoText c → fault c ≡ fieldText sc f
-  told-fault = text-fault w
-
-  module _ {n : ℕ} (e : r ≡ Text n) where
-    pub told-text : value (take n new) ≡ fieldText sc f
-    told-text = text-value w e
-
-    pub told-fits : n ≤ 1024
-    told-fits = text-fits w e
 
 -- what was read behind it
 module _ {A : Type 0} (out : List ℕ) {r : FieldText} (next : List ℕ → Reading Cause A) {o : Reading Cause A} (w : andThen (textReading out r) next ≡ o) where

@@ -1,5 +1,5 @@
 -- What a control line can do to the state, and so to the decision. Assumes nothing.
-use mathlib.Core.Path.{_≡_, refl, sym, ap, _∙_}
+use mathlib.Core.Path.{_≡_, sym, ap, _∙_}
 use mathlib.Core.Bool.{Bool, true, false, not, cond, _||_}
 use mathlib.Core.List.{List, [], _∷_}
 use mathlib.Core.Option.{Option, none, some, orElse, Option·map}
@@ -7,6 +7,7 @@ use Prim.Native.Nat.{ℕ, zero, suc}
 use Rattle.text.specs.Bytes.{bytes}
 use Rattle.text.specs.Lists.{null}
 use Rattle.text.specs.Slice.{same}
+use Rattle.text.proofs.Laws.{else-none}
 use Rattle.fault.specs.declared.Cause.{Cause}
 use Rattle.fault.specs.declared.Cause.the-variants.{ColonWord, EntryTooEarly, MissingPart, OptionTwice}
 use Rattle.fault.specs.Fault.{Reading, fault, value, readAll}
@@ -136,17 +137,12 @@ pub record Keeps (line : ℕ) (s t : State) : Type 0 where
   pub own : Option Verdict
   pub decides : t .decision ≡ orElse (s .decision) (Option·map (decidedAt line) own)
 
-or-none : {A : Type 0} (o : Option A) → o ≡ orElse o none
-unfolding orElse
-or-none none = refl
-or-none (some a) = refl
-
 pub line-keeps : (q : Question) (s t : State) (l : Line) → lineRead q s l ≡ value t → Keeps (l .number) s t
 unfolding withDefinition withSettings withEntry
 line-keeps q s t l e = by (line-change q s t l e)
   where
     unchanged : s .decision ≡ t .decision → Keeps (l .number) s t
-    unchanged d = record { own = none; decides = sym d ∙ or-none (s .decision) }
+    unchanged d = record { own = none; decides = sym d ∙ sym (else-none (s .decision)) }
 
     by : Change q (l .number) s t → Keeps (l .number) s t
     by (stays x) = unchanged (ap (λ u. u .decision) x)

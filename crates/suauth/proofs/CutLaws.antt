@@ -5,7 +5,7 @@ use mathlib.Core.List.{List}
 use mathlib.Core.Option.{Option, none, some}
 use Prim.Native.Nat.{ℕ, _≤_}
 use lib.ListN.{length, take}
-use Rattle.text.proofs.Laws.{clash}
+use Rattle.text.proofs.Laws.{untrue}
 use Rattle.fault.specs.Fault.{Reading, fault, value}
 use Rattle.line.specs.Line.{noByte}
 use Rattle.line.specs.Fold.{Refusal, faulty, cut}
@@ -25,9 +25,6 @@ use Rattle.suauth.specs.Contract.{WholeOf, CutOf}
 use Rattle.suauth.proofs.LineLaws.{once}
 
 -- ---- where a file gives a decision, every check before the lines has passed
-no-decision : {A : Type 0} → false ≡ true → A
-no-decision e = clash cc
-
 record Asks (t : List ℕ) (a : Asked) : Type 0 where
   question : Question
   good : questionOf a ≡ some question
@@ -39,11 +36,11 @@ asked t a e = good (questionOf a) refl e
   where
     bytes : (q : Question) → questionOf a ≡ some q → (x : Acceptance) → acceptanceOf t ≡ x → isDecision (readBytes t q x) ≡ true → Asks t a
     bytes q g Accepted h f = record { question = q; good = g; accepted = h }
-    bytes q g Long h f = no-decision f
-    bytes q g (RefusedAt p) h f = no-decision f
+    bytes q g Long h f = untrue f
+    bytes q g (RefusedAt p) h f = untrue f
 
     good : (o : Option Question) → questionOf a ≡ o → isDecision (readFile t o) ≡ true → Asks t a
-    good none h f = no-decision f
+    good none h f = untrue f
     good (some q) h f = bytes q h (acceptanceOf t) refl f
 
 -- then the answer is what the lines give
@@ -70,8 +67,8 @@ says-line OwnPassword l = refl
 -- ---- the cut file, by what the whole one gives
 cut-gives : (t : List ℕ) (n : ℕ) (q : Question) → n ≤ length t → (r : Reading (Refusal Malformed) (Option Decision)) → linesGive q t ≡ r → isDecision (settled r) ≡ true → settled (linesGive q (take n t)) ≡ cutAnswer t n (settled r)
 unfolding cutAnswer nothingYet isDecision toldOf
-cut-gives t n q l (fault (faulty m p)) e f = no-decision f
-cut-gives t n q l (fault (cut p)) e f = no-decision f
+cut-gives t n q l (fault (faulty m p)) e f = untrue f
+cut-gives t n q l (fault (cut p)) e f = untrue f
 cut-gives t n q l (value o) e f =
     cuts-told (lineRead q) (λ d. d) (λ d. d .line) (once q) settled (λ w. saysNoRule (toldOf w)) (λ w. lineTold (toldOf w)) (λ d. says-rule (d .action) (d .line)) (λ d. says-line (d .action) (d .line)) noByte none refl t n l o e
 

@@ -2,7 +2,7 @@
 use mathlib.Core.Path.{_≡_, refl, sym, _∙_}
 use mathlib.Core.Bool.{Bool, true, false, not, cond, _&&_, _||_}
 use mathlib.Core.List.{List, [], _∷_, map}
-use mathlib.Core.Option.{Option, none, some, bind}
+use mathlib.Core.Option.{Option, none, some, bind, orElse}
 use mathlib.Core.Logic.{_⊎_, inl, inr}
 use Prim.Native.Nat.{ℕ, zero, suc, _+_, _-_, _≤_, _<_, min}
 use native.Mathlib.Omega.{arith}
@@ -160,6 +160,22 @@ module _ {A : Type 0} (s : List A) (a e : ℕ) where
 -- an impossible equation proves anything: `clash cc` where constructors differ
 pub clash : {A : Type 0} → _≡_ {A = ℕ} 0 1 → A
 clash z = absurd (omega arith)
+
+-- so does a test that is both false and true
+pub untrue : {A : Type 0} → false ≡ true → A
+untrue e = clash cc
+
+-- ---- the first of some values that is there
+module _ {A : Type 0} where
+  pub else-assoc : (a b c : Option A) → orElse (orElse a b) c ≡ orElse a (orElse b c)
+  unfolding orElse
+  else-assoc none b c = refl
+  else-assoc (some x) b c = refl
+
+  pub else-none : (a : Option A) → orElse a none ≡ a
+  unfolding orElse
+  else-none none = refl
+  else-none (some x) = refl
 
 -- the length of a list is that of what a function makes of it
 pub unmapped : {A B : Type 0} (f : A → B) (l : List A) (n : ℕ) → length (map f l) ≡ n → length l ≡ n

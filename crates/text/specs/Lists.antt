@@ -35,6 +35,12 @@ abbrev pub onto : ℕ → List (List ℕ) → List (List ℕ)
 onto b [] = (b ∷ []) ∷ []
 onto b (p ∷ ps) = (b ∷ p) ∷ ps
 
+-- a byte in front of the parts that follow it: it ends a part, or stands first in the next; where none follows it is in none
+abbrev pub withByte : Bool → ℕ → List (List ℕ) → List (List ℕ)
+withByte true b ps = [] ∷ ps
+withByte false b [] = []
+withByte false b (p ∷ ps) = (b ∷ p) ∷ ps
+
 -- the parts between the bytes c: one more than there are such bytes
 unfoldable pub splitAt : ℕ → List ℕ → List (List ℕ)
 splitAt c [] = [] ∷ []

@@ -1,4 +1,5 @@
-use Rattle.pattern.proofs.Runs.{untrue, ordinary-high, ordinary-low}
+use Rattle.text.proofs.Laws.{untrue}
+use Rattle.pattern.proofs.Runs.{ordinary-high, ordinary-low}
 use Rattle.pattern.proofs.run.is_ordinary.Statement.{statement}
 use Rattle.pattern.proofs.run.is_ordinary.Tie as tie
 

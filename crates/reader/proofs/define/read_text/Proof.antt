@@ -4,7 +4,8 @@ use native.Mathlib.Omega.{arith}
 use borrow.Author.Needs.{needs}
 use lib.ListN.{length}
 use lib.Seq.{length-take-le}
-use Rattle.reader.proofs.FieldsLaws.{fields-end, fields-next, told-fault, told-text, told-fits, checked-fault, checked-good}
+use Rattle.reader.proofs.FieldsLaws.{fields-end, fields-next, checked-fault, checked-good}
+use Rattle.variables.proofs.TextLaws.{text-fault as told-fault, text-value, text-fits}
 use Rattle.reader.proofs.DefineLaws.{text-missing, text-fault, text-refused, text-before, text-last}
 use Rattle.reader.proofs.define.read_text.Statement.{statement}
 use Rattle.reader.proofs.define.read_text.Tie as tie
@@ -30,7 +31,7 @@ enum-known-n : tie.Need-enum-known-n
 enum-known-n c = search needs
 
 slice-aggregate-check-text : tie.Need-slice-aggregate-check-text
-slice-aggregate-check-text c = let f = told-fits (c .before .before .before .before .before .before .field-text .ensures) (c .before .before .before .before .n .given .1) in let l : length (c .before .before .before .before .before .before .field-text .last .1 .1 .1 .1 .1 .1 .0) ≡ 1024 = search needs in sym (length-take-le _ _ (omega (arith, f, l)))
+slice-aggregate-check-text c = let f = text-fits (c .before .before .before .before .before .before .field-text .ensures) (c .before .before .before .before .n .given .1) in let l : length (c .before .before .before .before .before .before .field-text .last .1 .1 .1 .1 .1 .1 .0) ≡ 1024 = search needs in sym (length-take-le _ _ (omega (arith, f, l)))
 
 check-text-requires : tie.Need-check-text-requires
 check-text-requires c κs = search needs
@@ -42,7 +43,7 @@ returns-2 : tie.Need-returns-2
 returns-2 c =
     let a = c .before .before .before .before .before .before .before .before .before .before .before .before .before .before .before .before .before .before .args in
     let g = fields-next (a .text .now) (a .ends .now) (a .count) (c .before .before .before .before .before .before .before .before .before .before .before .before .before .before .at-most .ensures .0) (a .from) (c .before .before .before .before .before .before .before .before .before .before .before .before .before .if1 .left) (c .before .before .before .before .before .before .before .before .before .before .before .before .field .ensures) in
-    (λ n. text-refused _ n g (told-text (c .before .before .before .before .before .before .before .before .before .before .field-text .ensures) (c .before .before .before .before .before .before .before .before .n .given .1)) (checked-fault _ (c .before .before .before .check-text .ensures) (c .before .cause2 .given .1)), omega arith)
+    (λ n. text-refused _ n g (text-value (c .before .before .before .before .before .before .before .before .before .before .field-text .ensures) (c .before .before .before .before .before .before .before .before .n .given .1)) (checked-fault _ (c .before .before .before .check-text .ensures) (c .before .cause2 .given .1)), omega arith)
 
 enum-told : tie.Need-enum-told
 enum-told c = search needs
@@ -64,7 +65,7 @@ returns-3 c =
     let a = c .before .before .before .before .before .before .before .before .before .before .before .before .before .before .before .before .before .before .before .before .args in
     let g = fields-next (a .text .now) (a .ends .now) (a .count) (c .before .before .before .before .before .before .before .before .before .before .before .before .before .before .before .before .at-most .ensures .0) (a .from) (c .before .before .before .before .before .before .before .before .before .before .before .before .before .before .before .if1 .left) (c .before .before .before .before .before .before .before .before .before .before .before .before .before .before .field .ensures) in
     let h = fields-next (a .text .now) (a .ends .now) (a .count) (c .before .before .before .before .before .before .before .before .before .before .before .before .before .before .before .before .at-most .ensures .0) (a .from + 1) (c .before .before .if2 .taken) (c .before .field2 .ensures) in
-    (λ n. text-before _ n g (told-text (c .before .before .before .before .before .before .before .before .before .before .before .before .field-text .ensures) (c .before .before .before .before .before .before .before .before .before .before .n .given .1)) (checked-good _ (c .before .before .before .before .before .check-text .ensures) (c .before .before .before .enum-told .given .1)) h (c .surplus .ensures), omega arith)
+    (λ n. text-before _ n g (text-value (c .before .before .before .before .before .before .before .before .before .before .before .before .field-text .ensures) (c .before .before .before .before .before .before .before .before .before .before .n .given .1)) (checked-good _ (c .before .before .before .before .before .check-text .ensures) (c .before .before .before .enum-told .given .1)) h (c .surplus .ensures), omega arith)
 
 returns-4 : tie.Need-returns-4
 returns-4 c =
@@ -78,8 +79,8 @@ returns-5 c =
     let g = fields-next (a .text .now) (a .ends .now) (a .count) (c .before .before .before .before .before .before .before .before .before .before .before .before .before .before .at-most .ensures .0) (a .from) (c .before .before .before .before .before .before .before .before .before .before .before .before .before .if1 .left) (c .before .before .before .before .before .before .before .before .before .before .before .before .field .ensures) in
     let h = fields-end (a .text .now) (a .ends .now) (a .count) (c .before .before .before .before .before .before .before .before .before .before .before .before .before .before .at-most .ensures .0) (a .from + 1) (c .if2 .left) in
     let l : length (c .before .before .before .before .before .before .before .before .before .before .field-text .last .1 .1 .1 .1 .1 .1 .0) ≡ 1024 = search needs in
-    let f = told-fits (c .before .before .before .before .before .before .before .before .before .before .field-text .ensures) (c .before .before .before .before .before .before .before .before .n .given .1) in
-    (λ n. text-last _ n g (told-text (c .before .before .before .before .before .before .before .before .before .before .field-text .ensures) (c .before .before .before .before .before .before .before .before .n .given .1)) (checked-good _ (c .before .before .before .check-text .ensures) (c .before .enum-told .given .1)) h, omega (arith, f, l))
+    let f = text-fits (c .before .before .before .before .before .before .before .before .before .before .field-text .ensures) (c .before .before .before .before .before .before .before .before .n .given .1) in
+    (λ n. text-last _ n g (text-value (c .before .before .before .before .before .before .before .before .before .before .field-text .ensures) (c .before .before .before .before .before .before .before .before .n .given .1)) (checked-good _ (c .before .before .before .check-text .ensures) (c .before .enum-told .given .1)) h, omega (arith, f, l))
 
 pub read-text-spec : {M : Type 1} → statement M
 read-text-spec =
