@@ -40,6 +40,11 @@ shapeOf syntax p = shapeIn (treeOf syntax p)
 unfoldable pub expansionAt : Syntax → List ℕ → ℕ → List ℕ
 expansionAt syntax p k = getD (expansionsOf syntax p) k []
 
+-- a pattern has so many expansions, and so a k-th one
+pub record HasExpansion (syntax : Syntax) (p : List ℕ) (number k : ℕ) : Type 0 where
+  pub count : number ≡ length (expansionsOf syntax p)
+  pub below : k < number
+
 -- a tree of pieces alone
 unfoldable pub onlyPieces : Tree → Bool
 onlyPieces empty = true
