@@ -13,13 +13,13 @@ use Rattle.fault.specs.Fault.{Reading, fault, value, andThen}
 use Rattle.fault.specs.declared.Cause.{Cause}
 use Rattle.question.specs.Question.{Question}
 use Rattle.line.specs.Line.{backslash}
-use Rattle.line.specs.Fold.{faulty, cut}
+use Rattle.line.specs.Fold.{ofLine, faulty, cut}
 use Rattle.line.specs.Refused.{refusedByte}
 use Rattle.line.specs.Scan.{scanned}
 use Rattle.line.specs.Kind.{kindOfLine}
 use Rattle.line.specs.Contract.{linesFrom, LineEnds}
 use Rattle.line.proofs.ScanLaws.{scanned-empty}
-use Rattle.line.proofs.StepLaws.{lineAt, outcomeFrom, from-start, from-end, from-cut, from-fault, from-on}
+use Rattle.line.proofs.StepLaws.{lineAt, outcomeFrom, from-start, from-end, from-cut, from-beginning, from-on}
 use Rattle.variables.specs.Scope.{Definition, define}
 use Rattle.variables.specs.Contract.{definitionsOf}
 use Rattle.variables.specs.declared.Variables.{Variables}
@@ -114,8 +114,8 @@ module _ (q : Question) (t : List ℕ) where
       abbrev bytes : List ℕ
       bytes = take (e - 1 - at) (drop at t)
 
-      stopped : {c : Cause} → lineRead q (f .state) (lineAt t at e number) ≡ fault c → linesGive q t ≡ fault (faulty c at)
-      stopped g = sym (f .rest) ∙ from-fault backslash (lineRead q) (λ s. s .decision) t at number (f .state) l g
+      stopped : {c : Cause} → lineRead q (f .state) (lineAt t at e number) ≡ fault (ofLine c) → linesGive q t ≡ fault (faulty c at)
+      stopped g = sym (f .rest) ∙ from-beginning backslash (lineRead q) (λ s. s .decision) t at number (f .state) l g
 
       onward : {s : State} {v′ : Variables} {r′ : Reader} {d′ : Kept} {path′ : List ℕ} → lineRead q (f .state) (lineAt t at e number) ≡ value s → s .definitions ≡ definitionsOf v′ → Keeps (q .args) r′ s → decidedIn d′ path′ ≡ s .decision → SoFar v′ r′ d′ path′ e (number + count)
       onward {s} g x k m = record { state = s; variables = x; keeps = k; decided = m; rest = sym (from-on backslash (lineRead q) (λ y. y .decision) t at number (f .state) l g) ∙ f .rest }

@@ -4,16 +4,19 @@ use mathlib.Core.Bool.{Bool, true, false, not, cond, _||_}
 use mathlib.Core.List.{List, [], _∷_}
 use mathlib.Core.Option.{Option, none, some, orElse, Option·map}
 use Prim.Native.Nat.{ℕ, zero, suc}
+use lib.ListN.{length}
 use Rattle.text.specs.Bytes.{bytes}
 use Rattle.text.specs.Lists.{null}
 use Rattle.text.specs.Slice.{same}
 use Rattle.fault.specs.declared.Cause.{Cause}
 use Rattle.fault.specs.declared.Cause.the-variants.{ColonWord, EntryTooEarly, MissingPart, OptionTwice}
-use Rattle.fault.specs.Fault.{Reading, fault, value, readAll}
+use Rattle.fault.specs.Fault.{Reading, fault, value, andThen, readAll}
 use Rattle.fault.proofs.Readings.{never, same-value, and-then, required}
 use Rattle.line.specs.declared.kind.LineKind.{LineKind}
 use Rattle.line.specs.Line.{Line}
 use Rattle.line.specs.Kind.{kindOfLine}
+use Rattle.line.proofs.FoldLaws.{beginning-value}
+use Rattle.line.proofs.WithinLaws.{FaultsWithin, beginning-within}
 use Rattle.question.specs.Question.{Question}
 use Rattle.variables.specs.Scope.{Scope, Definition, definition}
 use Rattle.variables.specs.Define.{defineName, defineText, defineIn}
@@ -129,7 +132,12 @@ module _ (q : Question) (line : ℕ) (s t : State) where
 
 pub line-change : (q : Question) (s t : State) (l : Line) → lineRead q s l ≡ value t → Change q (l .number) s t
 unfolding lineRead
-line-change q s t l e = let u = and-then (scanned (l .bytes)) _ t e in by-fields q (l .number) s t ifDepth (u .0) (u .2)
+line-change q s t l e = let u = and-then (scanned (l .bytes)) _ t (beginning-value (andThen (scanned (l .bytes)) (fieldsRead ifDepth q (l .number) s)) t e) in by-fields q (l .number) s t ifDepth (u .0) (u .2)
+
+-- a fault of a control line is within the line
+pub line-faults : (q : Question) → FaultsWithin (lineRead q)
+unfolding lineRead
+line-faults q s l x e = beginning-within (length (l .bytes)) (andThen (scanned (l .bytes)) (fieldsRead ifDepth q (l .number) s)) x e
 
 -- a line leaves the decision as it was, or makes the first one, with its own number
 pub record Keeps (line : ℕ) (s t : State) : Type 0 where

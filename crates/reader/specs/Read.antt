@@ -8,6 +8,7 @@ use Rattle.fault.specs.declared.Cause.the-variants.{EntryTooEarly}
 use Rattle.line.specs.declared.kind.LineKind.{LineKind}
 use Rattle.line.specs.declared.kind.LineKind.the-variants.{NoField, Colon as ColonKind, Entry as EntryKind}
 use Rattle.line.specs.Line.{Line}
+use Rattle.line.specs.Fold.{Located, atBeginning}
 use Rattle.line.specs.Scan.{scanned}
 use Rattle.line.specs.Kind.{kindOfLine}
 use Rattle.question.specs.Question.{Question}
@@ -46,5 +47,5 @@ abbrev pub ifDepth : ℕ
 ifDepth = 4
 
 -- a control line: "joined length, indents, quotes, number of fields, then fields left to right", then the whole line
-unfoldable pub lineRead : Question → State → Line → Reading Cause State
-lineRead q s l = andThen (scanned (l .bytes)) (fieldsRead ifDepth q (l .number) s)
+unfoldable pub lineRead : Question → State → Line → Reading (Located Cause) State
+lineRead q s l = atBeginning (andThen (scanned (l .bytes)) (fieldsRead ifDepth q (l .number) s))
