@@ -36,7 +36,7 @@ use Rattle.entry_line.specs.declared.decide.Decided.{Decided}
 use Rattle.reader.specs.State.{State, scopeOf, withEntry}
 use Rattle.reader.specs.Colon.{defineLine, globalLine}
 use Rattle.reader.specs.Read.{judgeFor, fieldsRead}
-use Rattle.reader.specs.Contract.{Keeps, Changes, scopeFor, acted, LineDefines}
+use Rattle.reader.specs.Contract.{Changes, scopeFor, acted, LineActs, LineDefines, GlobalChanges}
 use Rattle.reader.specs.declared.control_line.Action.{Action}
 use Rattle.reader.specs.declared.define.DefineRead.{DefineRead}
 use Rattle.reader.specs.declared.state.Reader.{Reader}
@@ -61,14 +61,14 @@ ends-kept {ends = ends} w = rw (w .places) (laid-length ends 0 _)
 module _ {q : Question} {t : List ℕ} {v : Variables} {r : Reader} {d : Kept} {path : List ℕ} {at number e count : ℕ} {command user groups host : List ℕ} {minute : WeekMinute} {last : LastAuthentication} {args : List ℕ} {fs : List (List ℕ)} (k : AskedWith q command user groups host minute last args) (f : SoFar q t v r d path at number) (l : LineEnds backslash t at e count) (g : scanned (take (e - 1 - at) (drop at t)) ≡ value fs) where
   -- what the reader of control lines answers
   abbrev Acted : Action → Type 0
-  Acted x = (p : Question) (line : ℕ) (s : State) → p .user ≡ user → p .host ≡ host → s .definitions ≡ definitionsIn (v .bytes) (v .sizes) (v .count) → s .shell ≡ r .shell → fieldsRead 4 p line s fs ≡ acted p line s fs x
+  Acted x = LineActs fs 0 4 (r .shell) user host (definitionsIn (v .bytes) (v .sizes) (v .count)) x
 
   scope-is : scopeFor user host (f .state) ≡ scopeOf q (f .state)
   scope-is = rw (k .itsUser, k .itsHost)
 
   module _ (x : Action) (a : Acted x) where
     by-action : {y : Action} → x ≡ y → fieldsRead 4 q number (f .state) fs ≡ acted q number (f .state) fs y
-    by-action z = rw (← z) (a q number (f .state) (k .itsUser) (k .itsHost) (f .variables) (sym (f .keeps .shell)))
+    by-action z = rw (← z) (a .acts q number (f .state) (k .itsUser) (k .itsHost) (f .variables) (sym (f .keeps .shell)))
 
     pub arm-fault : {c : Cause} → x ≡ ActionFault c → linesGive q t ≡ fault (faulty c at)
     arm-fault z = so-refused q t f l g (by-action z)
@@ -93,9 +93,9 @@ module _ {q : Question} {t : List ℕ} {v : Variables} {r : Reader} {d : Kept} {
           let n = u .defines .5 (f .state) (f .variables) (v′ .bytes) (v′ .sizes) (p .1) in
           so-defined q t f l g (definition (take a name) (take b text)) (defining (n .0)) (n .1 ∙ ap (definitionsIn (v′ .bytes) (v′ .sizes)) (sym (p .0)))
 
-    module _ {i : ℕ} {y : Changed} (z : x ≡ Global i) (h : (s : State) → Keeps (stringsIn args) r s → s .definitions ≡ definitionsIn (v .bytes) (v .sizes) (v .count) → Changes (stringsIn args) (globalLine (scopeFor user host s) s (drop i fs)) y) where
+    module _ {i : ℕ} {y : Changed} (z : x ≡ Global i) (h : GlobalChanges user host (definitionsIn (v .bytes) (v .sizes) (v .count)) (stringsIn args) (drop i fs) r y) where
       setting : Changes (q .args) (globalLine (scopeOf q (f .state)) (f .state) (drop i fs)) y
-      setting = rw (k .itsArgs) (rw scope-is at (h (f .state) (rw (k .itsArgs) at (f .keeps)) (f .variables)))
+      setting = rw (k .itsArgs) (rw scope-is at (h .changesEach (f .state) (rw (k .itsArgs) at (f .keeps)) (f .variables)))
 
       pub arm-global-fault : {c : Cause} → y .outcome ≡ LineFault c → linesGive q t ≡ fault (faulty c at)
       arm-global-fault o = so-refused q t f l g (by-action z ∙ changed-fault (q .args) _ setting o)

@@ -5,16 +5,13 @@ use Prim.Native.Nat.{ℕ, _+_, _≤_, _<_, min}
 use native.Mathlib.Omega.{arith}
 use lib.ListN.{length, take, drop, getD, drop-of-length-le}
 use Rattle.text.proofs.Laws.{next-of}
-use Rattle.fault.specs.Fault.{Reading, fault, value, andThen}
+use Rattle.fault.specs.Fault.{Reading, fault, value}
 use Rattle.fault.specs.declared.Cause.{Cause}
 use Rattle.line.specs.Contract.{fieldsIn}
 use Rattle.line.proofs.AccessLaws.{fields-count}
-use Rattle.variables.specs.Scope.{Scope}
-use Rattle.variables.specs.Substitute.{fieldText}
-use Rattle.variables.specs.Contract.{textReading, lengthTold, checkedReading, Substitutes}
+use Rattle.variables.specs.Contract.{textReading, lengthTold, checkedReading}
 use Rattle.variables.specs.declared.definition.Checked.{Checked}
 use Rattle.variables.specs.declared.field.FieldText.{FieldText}
-use Rattle.variables.proofs.TextLaws.{text-fault, text-value, text-fits}
 use Rattle.variables.specs.declared.definition.Checked.the-variants.{Good, Fault as NotGood}
 use Rattle.variables.specs.declared.field.FieldText.the-variants.{Text, Fault as NoText}
 
@@ -28,25 +25,13 @@ module _ (text ends : List ℕ) (count : ℕ) {m : ℕ} (e : m ≡ min count 64)
   pub fields-next : {f : List ℕ} → i < m → f ≡ getD (fieldsIn text ends count) i [] → drop i (fieldsIn text ends count) ≡ f ∷ drop (i + 1) (fieldsIn text ends count)
   fields-next h g = let k : i < length (fieldsIn text ends count) = omega (arith, fields-count text ends count) in rw g (next-of [] (fieldsIn text ends count) i k)
 
--- what an answer tells of a field's text
-module _ {sc : Scope} {f old new : List ℕ} {r : FieldText} (w : Substitutes sc f old new r) where
-  pub told-fault : {c : Cause} → r ≡ NoText c → fault c ≡ fieldText sc f
-  told-fault = text-fault w
+-- what an answer tells of a text in a buffer
+module _ (out : List ℕ) {r : FieldText} {o : Reading Cause (List ℕ)} (w : textReading out r ≡ o) where
+  pub reading-fault : {c : Cause} → r ≡ NoText c → fault c ≡ o
+  reading-fault e = rw e at w
 
-  module _ {n : ℕ} (e : r ≡ Text n) where
-    pub told-text : value (take n new) ≡ fieldText sc f
-    told-text = text-value w e
-
-    pub told-fits : n ≤ 1024
-    told-fits = text-fits w e
-
--- what was read behind it
-module _ {A : Type 0} (out : List ℕ) {r : FieldText} (next : List ℕ → Reading Cause A) {o : Reading Cause A} (w : andThen (textReading out r) next ≡ o) where
-  pub then-fault : {c : Cause} → r ≡ NoText c → fault c ≡ o
-  then-fault e = rw e at w
-
-  pub then-text : {n : ℕ} → r ≡ Text n → next (take n out) ≡ o
-  then-text e = rw e at w
+  pub reading-text : {n : ℕ} → r ≡ Text n → value (take n out) ≡ o
+  reading-text e = rw e at w
 
 pub length-fits : {r : FieldText} {n m : ℕ} → lengthTold r ≤ m → r ≡ Text n → n ≤ m
 length-fits h e = rw e at h
