@@ -4,6 +4,5 @@ pub mod PieceLaws
 pub mod PrintLaws
 pub mod Examples
 pub mod WorkedLines
-pub mod LimitLaws
 pub mod ResponseLaws
 pub mod RespondLaws

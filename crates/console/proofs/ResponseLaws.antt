@@ -14,17 +14,16 @@ use Rattle.text.proofs.Laws.{pick-of}
 use Rattle.fault.specs.Fault.{Reading, fault, value}
 use Rattle.fault.specs.declared.Cause.{Cause}
 use Rattle.question.specs.Question.{Question}
-use Rattle.line.specs.Line.{tableLimit, backslash, linesOf}
+use Rattle.line.specs.Line.{tableLimit}
 use Rattle.line.specs.Fold.{Refusal, faulty, cut}
 use Rattle.line.specs.declared.whole.Acceptance.{Acceptance}
 use Rattle.line.specs.declared.whole.Acceptance.the-variants.{Accepted, Long, RefusedAt}
 use Rattle.line.specs.Whole.{acceptanceOf}
-use Rattle.line.proofs.FoldLaws.{run-keeps, run-through}
+use Rattle.line.proofs.WithinLaws.{ReadWithin}
 use Rattle.line.proofs.WholeLaws.{accepted-short, refused-within}
 use Rattle.entry.specs.Verdict.{Verdict, permit, password, stoppedByNargs, stoppedByArgument, stoppedByPath}
-use Rattle.reader.specs.State.{Decision, start}
-use Rattle.reader.specs.Read.{lineRead}
-use Rattle.reader.proofs.ShortIds.{ShortVerdict, ShortState, short-start, short-keeps}
+use Rattle.reader.specs.State.{Decision}
+use Rattle.reader.proofs.ShortIds.{ShortVerdict}
 use Rattle.answer.specs.Answer.{leastBuffer, Grant, Beside, granted, atLine, atPlace, Told, told, toldOf, toldBy}
 use Rattle.table_lines.specs.Lines.{linesGive}
 use Rattle.answer.specs.Meaning.{Asked, asks, answerOf}
@@ -34,9 +33,9 @@ use Rattle.console.specs.QuestionLine.{askedIn}
 use Rattle.console.specs.Printed.{idText, permitWord, grantText, stopText, refusalText, printed}
 use Rattle.console.specs.Console.{toldFor, response, loggedFor, logged}
 use Rattle.record.proofs.AppendLaws.{bytes-most}
+use Rattle.record.proofs.WithinLaws.{Give, lines-give}
 use Rattle.output.proofs.DecimalLaws.{decimal-short}
 use Rattle.fault.proofs.Numbers.{cause-number}
-use Rattle.console.proofs.LimitLaws.{refused-place, decided-line}
 
 -- a grant with short strings at a line of the table
 pub record ShortGrant (g : Grant) : Type 0 where
@@ -66,23 +65,15 @@ short-verdict line stoppedByArgument h k = record { number = omega arith; beside
 short-verdict line stoppedByPath h k = record { number = omega arith; beside = h }
 
 module _ (t : List ℕ) (a : Asked) (b : List ℕ) where
-  short-decision : (w : Asks t a b) (d : Decision) → length t ≤ tableLimit → linesGive (w .question) t ≡ value (some d) → ShortTold (toldBy (answerOf t a b))
-  short-decision w d h e =
-      let q = w .question in
-      let x = run-through backslash (lineRead q) (λ s. s .decision) start t (some d) e in
-      let k = run-keeps (lineRead q) ShortState (λ s u l i f. short-keeps q s u l i f) (linesOf backslash t) start (x .0) short-start (x .1) .decision in
-      let l = decided-line q t (x .0) d (x .1) (x .2) in
-      rw (decision-told w d e) (short-verdict (d .line) (d .verdict) (omega arith) (rw (x .2) at k))
-
   short-lines : (w : Asks t a b) → length t ≤ tableLimit → ShortTold (toldBy (answerOf t a b))
   unfolding toldOf
-  short-lines w h = go (linesGive (w .question) t) refl
+  short-lines w h = go (linesGive (w .question) t) refl (lines-give (w .question) t)
     where
-      go : (r : Reading (Refusal Cause) (Option Decision)) → linesGive (w .question) t ≡ r → ShortTold (toldBy (answerOf t a b))
-      go (fault (faulty c p)) e = let k = refused-place (w .question) t (faulty c p) e in rw (read w, e) (record { number = cause-number c .1; beside = omega arith })
-      go (fault (cut p)) e = let k = refused-place (w .question) t (cut p) e in rw (read w, e) (record { number = omega arith; beside = omega arith })
-      go (value none) e = rw (read w, e) (record { number = omega arith; beside = omega arith })
-      go (value (some d)) e = short-decision w d h e
+      go : (r : Reading (Refusal Cause) (Option Decision)) → linesGive (w .question) t ≡ r → ReadWithin (length t) (Give (length t)) r → ShortTold (toldBy (answerOf t a b))
+      go (fault (faulty c p)) e k = rw (read w, e) (record { number = cause-number c .1; beside = omega arith })
+      go (fault (cut p)) e k = rw (read w, e) (record { number = omega arith; beside = omega arith })
+      go (value none) e k = rw (read w, e) (record { number = omega arith; beside = omega arith })
+      go (value (some d)) e k = rw (decision-told w d e) (short-verdict (d .line) (d .verdict) (omega (arith, k .1)) (k .0))
 
   -- an answer with room in the buffer tells what is short
   pub short-told : leastBuffer ≤ length b → ShortTold (toldBy (answerOf t a b))

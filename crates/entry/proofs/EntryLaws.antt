@@ -9,7 +9,7 @@ use Rattle.fault.specs.Fault.{Reading, fault, value, andThen, require}
 use Rattle.fault.specs.declared.Cause.{Cause}
 use Rattle.fault.specs.declared.Cause.the-variants.{LatePair}
 use Rattle.variables.specs.Scope.{Scope}
-use Rattle.variables.specs.Substitute.{fieldText}
+use Rattle.variables.specs.Substitute.{fieldAs}
 use Rattle.options.specs.Read.{Setting, optionOf}
 use Rattle.condition.specs.Condition.{Sort, user, group, time, Judge, Condition, conditionOf}
 use Rattle.entry.specs.Field.{Entry, entry, noField, followed, Position, rest, FieldRead, fieldRead, conditionPart, hasPair, optionOr, otherOf, fieldOf}
@@ -42,22 +42,17 @@ module _ (judge : Judge) (s : Scope) where
   entry-end e p = rw (followed-none e)
 
   module _ (e : Entry) (p : Position) (f : List ℕ) (fs : List (List ℕ)) where
-    pub entry-text : {c : Cause} → fieldText s f ≡ fault c → entryAfter e p (f ∷ fs) ≡ fault c
+    pub entry-fault : {c : Cause} → fieldAs s (fieldOf judge p) f ≡ fault c → entryAfter e p (f ∷ fs) ≡ fault c
     unfolding entryAfter fieldsFrom
-    entry-text g = rw g
+    entry-fault h = rw h
 
-    module _ {t : List ℕ} (g : fieldText s f ≡ value t) where
-      pub entry-fault : {c : Cause} → fieldOf judge p t ≡ fault c → entryAfter e p (f ∷ fs) ≡ fault c
-      unfolding entryAfter fieldsFrom
-      entry-fault h = rw (g, h)
-
-      pub entry-on : {x : FieldRead} → fieldOf judge p t ≡ value x → entryAfter e p (f ∷ fs) ≡ entryAfter (followed e (x .part)) (x .next) fs
-      unfolding entryAfter fieldsFrom
-      entry-on {x} h = rw (g, h) (go (fieldsFrom judge s (x .next) fs))
-        where
-          go : (o : Reading Cause Entry) → andThen (andThen o (λ d. value (followed (x .part) d))) (λ d. value (followed e d)) ≡ andThen o (λ d. value (followed (followed e (x .part)) d))
-          go (fault c) = refl
-          go (value d) = rw (followed-assoc e (x .part) d)
+    pub entry-on : {x : FieldRead} → fieldAs s (fieldOf judge p) f ≡ value x → entryAfter e p (f ∷ fs) ≡ entryAfter (followed e (x .part)) (x .next) fs
+    unfolding entryAfter fieldsFrom
+    entry-on {x} h = rw h (go (fieldsFrom judge s (x .next) fs))
+      where
+        go : (o : Reading Cause Entry) → andThen (andThen o (λ d. value (followed (x .part) d))) (λ d. value (followed e d)) ≡ andThen o (λ d. value (followed (followed e (x .part)) d))
+        go (fault c) = refl
+        go (value d) = rw (followed-assoc e (x .part) d)
 
 -- the settings of a field that is an option or a condition
 pub other-settings : (judge : Judge) (t : List ℕ) {x : FieldRead} → otherOf judge t ≡ value x → x .part .settings ≡ settingsIn (optionOf false t)

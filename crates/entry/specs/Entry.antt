@@ -7,7 +7,7 @@ use Rattle.fault.specs.Fault.{Reading, value, andThen, require}
 use Rattle.fault.specs.declared.Cause.{Cause}
 use Rattle.fault.specs.declared.Cause.the-variants.{MissingPart, OptionTwice}
 use Rattle.variables.specs.Scope.{Scope}
-use Rattle.variables.specs.Substitute.{fieldText}
+use Rattle.variables.specs.Substitute.{fieldAs}
 use Rattle.options.specs.Read.{twice}
 use Rattle.condition.specs.Users.{usersAccept}
 use Rattle.condition.specs.Times.{timesAccept}
@@ -18,10 +18,9 @@ use Rattle.entry.specs.Field.{Entry, noField, followed, Position, first,
 unfoldable pub fieldsFrom : Judge → Scope → Position → List (List ℕ) → Reading Cause Entry
 fieldsFrom judge s p [] = value noField
 fieldsFrom judge s p (f ∷ fs) =
-    andThen (fieldText s f) (λ t.
-    andThen (fieldOf judge p t) (λ x.
+    andThen (fieldAs s (fieldOf judge p) f) (λ x.
     andThen (fieldsFrom judge s (x .next) fs) (λ e.
-    value (followed (x .part) e))))
+    value (followed (x .part) e)))
 
 -- "then what concerns the whole line (a part missing, an option twice)": the path, or "at least one user or group field"
 unfoldable pub completed : Entry → Reading Cause Entry

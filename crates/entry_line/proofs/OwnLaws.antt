@@ -10,9 +10,9 @@ use Rattle.text.proofs.Laws.{next-of}
 use Rattle.fault.specs.Fault.{Reading, fault, value, require}
 use Rattle.fault.specs.declared.Cause.{Cause}
 use Rattle.fault.specs.declared.Cause.the-variants.{MissingPart, OptionTwice}
-use Rattle.fault.proofs.Readings.{never, same-value, and-then, required}
+use Rattle.fault.proofs.Readings.{never, same-value, and-then, required, then-fault, then-value}
 use Rattle.variables.specs.Scope.{Scope}
-use Rattle.variables.specs.Substitute.{fieldText}
+use Rattle.variables.specs.Substitute.{fieldText, fieldAs}
 use Rattle.variables.specs.Contract.{Substitutes}
 use Rattle.variables.specs.declared.field.FieldText.{FieldText}
 use Rattle.variables.proofs.TextLaws.{text-value, text-short}
@@ -26,7 +26,7 @@ use Rattle.entry.specs.declared.position.Position.{Position as CodePosition}
 use Rattle.entry.specs.declared.position.Position.the-variants.{First}
 use Rattle.entry.specs.declared.position.FieldKind.{FieldKind}
 use Rattle.entry.specs.declared.own.Own.{Own}
-use Rattle.entry.proofs.EntryLaws.{entryAfter, entry-start, entry-end, entry-text, entry-fault, entry-on}
+use Rattle.entry.proofs.EntryLaws.{entryAfter, entry-start, entry-end, entry-fault, entry-on}
 use Rattle.entry.proofs.OtherLaws.{field-gives}
 use Rattle.entry.proofs.VerdictLaws.{sums-same}
 use Rattle.variables.specs.declared.field.FieldText.the-variants.{Text}
@@ -77,7 +77,7 @@ module _ {judge : Judge} {s : Scope} {ps : List ArgumentPattern} {xs : List (Lis
 
     -- a field that has no text would be a fault
     pub reached-lost : {A : Type 0} {d : Cause} → fault d ≡ fieldText s f → A
-    reached-lost g = never (sym (entry-text judge s (r .sofar) (r .position) f (drop (i + 1) fs) (sym g)) ∙ ahead)
+    reached-lost g = never (sym (entry-fault judge s (r .sofar) (r .position) f (drop (i + 1) fs) (sym (then-fault (fieldOf judge (r .position)) g))) ∙ ahead)
 
     -- the next field: where it leads, and the settings
     pub reached-on : {old new : List ℕ} {y : FieldKind} {k′ : CodePosition} {o′ : Own} {u : FieldText} {n : ℕ} → Substitutes s f old new u → u ≡ Text n
@@ -90,18 +90,18 @@ module _ {judge : Judge} {s : Scope} {ps : List ArgumentPattern} {xs : List (Lis
         t : List ℕ
         t = take n new
 
-        g : fieldText s f ≡ value t
-        g = sym (text-value v q)
+        read : {x : Reading Cause FieldRead} → fieldOf judge (r .position) t ≡ x → fieldAs s (fieldOf judge (r .position)) f ≡ x
+        read h = sym (then-value (fieldOf judge (r .position)) (text-value v q) (sym h))
 
         w : y ≡ kindBy (positionOf (r .position)) (findPair 58 58 0 t)
         w = rw (r .stands) at a
 
         go : (x : Reading Cause FieldRead) → fieldOf judge (r .position) t ≡ x → Reached judge s ps xs k′ o′ (drop (i + 1) fs) whole
-        go (fault d) h = never (sym (entry-fault judge s (r .sofar) (r .position) f (drop (i + 1) fs) g h) ∙ ahead)
+        go (fault d) h = never (sym (entry-fault judge s (r .sofar) (r .position) f (drop (i + 1) fs) (read h)) ∙ ahead)
         go (value x) h = let z = rw (← w) at (field-gives judge (r .position) t h) in record {
           position = x .next;
           sofar = followed (r .sofar) (x .part);
           stands = b ∙ sym (z .1);
           sums = rw (z .0) (sums ps (r .sofar .settings) (text-short v q) (r .sums));
-          rest = sym (entry-on judge s (r .sofar) (r .position) f (drop (i + 1) fs) g h) ∙ ahead;
+          rest = sym (entry-on judge s (r .sofar) (r .position) f (drop (i + 1) fs) (read h)) ∙ ahead;
         }

@@ -15,11 +15,10 @@ use Rattle.text.proofs.Lists.{all-part}
 use Rattle.fault.specs.Fault.{Reading, fault, value, andThen, require}
 use Rattle.fault.specs.declared.Cause.{Cause}
 use Rattle.fault.specs.declared.Cause.the-variants.{FieldLength, MissingPart, OptionTwice}
-use Rattle.fault.proofs.Readings.{and-then}
 use Rattle.line.specs.Contract.{fieldsIn}
 use Rattle.line.proofs.AccessLaws.{fields-count, field-part}
 use Rattle.variables.specs.Scope.{Scope}
-use Rattle.variables.specs.Substitute.{fieldText}
+use Rattle.variables.specs.Substitute.{fieldText, fieldAs}
 use Rattle.variables.specs.Contract.{literal, verbatim, Substitutes}
 use Rattle.variables.specs.declared.field.FieldText.{FieldText}
 use Rattle.variables.proofs.TextLaws.{text-fault, text-value, text-short, text-length}
@@ -33,7 +32,7 @@ use Rattle.entry.specs.Contract.{given, pathIn, Holds, Adds, outcomeOf}
 use Rattle.entry.specs.declared.entry.Added.{Added}
 use Rattle.entry.specs.declared.entry.FieldOutcome.{FieldOutcome}
 use Rattle.entry.specs.declared.entry.FieldOutcome.the-variants.{Good, Fault}
-use Rattle.entry.proofs.EntryLaws.{entryAfter, entry-start, entry-end, entry-text, entry-fault, entry-on}
+use Rattle.entry.proofs.EntryLaws.{entryAfter, entry-start, entry-end, entry-fault, entry-on}
 use Rattle.entry.proofs.FinishLaws.{path-kept, unmatched}
 use Rattle.entry_line.specs.declared.read.EntryAction.{EntryAction}
 use Rattle.entry_line.specs.Contract.{textOr, textsIn, TextUnless, Reads, acceptsIf, Acting, Acts}
@@ -48,7 +47,7 @@ stopped k d = record { entry = k; outcome = Fault d }
 -- ---- one field
 module _ {j : Bool} {c : List ℕ} {t : ℕ → List ℕ} {e : Entry} (s : Scope) (f : List ℕ) (o : List ℕ → Reading Cause FieldRead) (i : ℕ) {r : Added} (te : t i ≡ textOr f (fieldText s f)) where
   -- a field that is its own text
-  verbatim-added : verbatim f ≡ true → (t i ≡ f → Adds j c t e (require (leb (length f) 1024) FieldLength (o f)) r) → Adds j c t e (andThen (fieldText s f) o) r
+  verbatim-added : verbatim f ≡ true → (t i ≡ f → Adds j c t e (require (leb (length f) 1024) FieldLength (o f)) r) → Adds j c t e (fieldAs s o f) r
   verbatim-added v g = rw (verbatim-text s f v) (go (leb (length f) 1024) (rw (verbatim-text s f v) at te) g)
     where
       go : (b : Bool) → t i ≡ textOr f (require b FieldLength (value f)) → (t i ≡ f → Adds j c t e (require b FieldLength (o f)) r) → Adds j c t e (andThen (require b FieldLength (value f)) o) r
@@ -56,13 +55,13 @@ module _ {j : Bool} {c : List ℕ} {t : ℕ → List ℕ} {e : Entry} (s : Scope
       go false q k = k q
 
   -- a field whose text was written
-  text-added : {old new : List ℕ} {x : FieldText} {n : ℕ} → x ≡ Text n → Substitutes s f old new x → (t i ≡ take n new → Adds j c t e (require (leb (length (take n new)) 1024) FieldLength (o (take n new))) r) → Adds j c t e (andThen (fieldText s f) o) r
+  text-added : {old new : List ℕ} {x : FieldText} {n : ℕ} → x ≡ Text n → Substitutes s f old new x → (t i ≡ take n new → Adds j c t e (require (leb (length (take n new)) 1024) FieldLength (o (take n new))) r) → Adds j c t e (fieldAs s o f) r
   text-added g w k =
       let v = text-value w g in
       rw (← v) (rw (le-leb _ _ (text-short w g)) at (k (rw (← v) at te)))
 
 -- a field that has no text
-text-refused : {j : Bool} {c : List ℕ} {t : ℕ → List ℕ} {e : Entry} (s : Scope) (f : List ℕ) (o : List ℕ → Reading Cause FieldRead) {k : Kept} {old new : List ℕ} {x : FieldText} {d : Cause} → x ≡ NoText d → Substitutes s f old new x → Adds j c t e (andThen (fieldText s f) o) (stopped k d)
+text-refused : {j : Bool} {c : List ℕ} {t : ℕ → List ℕ} {e : Entry} (s : Scope) (f : List ℕ) (o : List ℕ → Reading Cause FieldRead) {k : Kept} {old new : List ℕ} {x : FieldText} {d : Cause} → x ≡ NoText d → Substitutes s f old new x → Adds j c t e (fieldAs s o f) (stopped k d)
 text-refused s f o g w = record { adds = rw (← text-fault w g) refl }
 
 -- a field whose text was written unless it is the field itself
@@ -82,17 +81,17 @@ module _ {b : Bool} {s : Scope} {f old new : List ℕ} {x : FieldText} (w : Text
       go false q = text-length (w .written q) g l
 
   module _ {j : Bool} {c : List ℕ} {t : ℕ → List ℕ} {e : Entry} (o : List ℕ → Reading Cause FieldRead) where
-    pub unless-refused : {k : Kept} {d : Cause} → x ≡ NoText d → Adds j c t e (andThen (fieldText s f) o) (stopped k d)
+    pub unless-refused : {k : Kept} {d : Cause} → x ≡ NoText d → Adds j c t e (fieldAs s o f) (stopped k d)
     unless-refused {k} {d} g = go b refl
       where
-        go : (v : Bool) → b ≡ v → Adds j c t e (andThen (fieldText s f) o) (stopped k d)
+        go : (v : Bool) → b ≡ v → Adds j c t e (fieldAs s o f) (stopped k d)
         go true q = clash (let h = w .itself q in cc)
         go false q = text-refused s f o g (w .written q)
 
-    pub unless-added : (i : ℕ) {r : Added} {y : List ℕ} {n : ℕ} → t i ≡ textOr f (fieldText s f) → b ≡ verbatim f → x ≡ Text n → y ≡ cond b f (take n new) → (t i ≡ y → Adds j c t e (require (leb (length y) 1024) FieldLength (o y)) r) → Adds j c t e (andThen (fieldText s f) o) r
+    pub unless-added : (i : ℕ) {r : Added} {y : List ℕ} {n : ℕ} → t i ≡ textOr f (fieldText s f) → b ≡ verbatim f → x ≡ Text n → y ≡ cond b f (take n new) → (t i ≡ y → Adds j c t e (require (leb (length y) 1024) FieldLength (o y)) r) → Adds j c t e (fieldAs s o f) r
     unless-added i {r} {y} {n} te v g h k = go b refl h
       where
-        go : (a : Bool) → b ≡ a → y ≡ cond a f (take n new) → Adds j c t e (andThen (fieldText s f) o) r
+        go : (a : Bool) → b ≡ a → y ≡ cond a f (take n new) → Adds j c t e (fieldAs s o f) r
         go true q h = verbatim-added s f o i te (sym v ∙ q) (rw h at k)
         go false q h = text-added s f o i te g (w .written q) (rw h at k)
 
@@ -107,17 +106,6 @@ module _ {j : Bool} {c : List ℕ} {t : ℕ → List ℕ} {e : Entry} {r : Added
   good-told (value x) a q = (x, refl, a .adds .1)
 
 -- ---- all fields
-module _ (judge : Judge) (s : Scope) (e : Entry) (p : Position) (f : List ℕ) (fs : List (List ℕ)) where
-  after-fault : {d : Cause} → andThen (fieldText s f) (fieldOf judge p) ≡ fault d → entryAfter judge s e p (f ∷ fs) ≡ fault d
-  after-fault {d} q = go (fieldText s f) refl q
-    where
-      go : (o : Reading Cause (List ℕ)) → fieldText s f ≡ o → andThen o (fieldOf judge p) ≡ fault d → entryAfter judge s e p (f ∷ fs) ≡ fault d
-      go (fault b) g k = entry-text judge s e p f fs g ∙ cc
-      go (value t) g k = entry-fault judge s e p f fs g k
-
-  after-value : {x : FieldRead} → andThen (fieldText s f) (fieldOf judge p) ≡ value x → entryAfter judge s e p (f ∷ fs) ≡ entryAfter judge s (followed e (x .part)) (x .next) fs
-  after-value {x} q = let u = and-then (fieldText s f) (fieldOf judge p) x q in entry-on judge s e p f fs (u .1) (u .2)
-
 -- a field that ends where the text has no quote and no `$`
 pub field-verbatim : (text ends : List ℕ) (count i most reach : ℕ) (plain : Bool) → plain ≡ verbatim (take reach text) → most ≡ min count 64 → i < most → plain && leb (getD ends i 0) reach ≡ true → verbatim (getD (fieldsIn text ends count) i []) ≡ true
 unfolding verbatim all
@@ -151,8 +139,8 @@ module _ {judge : Judge} {s : Scope} {j : Bool} {c : List ℕ} {fs : List (List 
   read-none h = record { position = first; entry = noField; holds = h j c (textsIn s fs); whole = entry-start judge s first (drop start fs) }
 
   module _ {k : Kept} {i : ℕ} (u : ReadUpTo judge s j c fs start k i) where
-    module _ {f : List ℕ} {r : Added} (l : i < length fs) (g : f ≡ getD fs i []) (a : (t : ℕ → List ℕ) (p : Position) (e : Entry) → t i ≡ textOr f (fieldText s f) → Holds j c t k p e → Adds j c t e (andThen (fieldText s f) (fieldOf judge p)) r) where
-      added-here : Adds j c (textsIn s fs) (u .entry) (andThen (fieldText s (getD fs i [])) (fieldOf judge (u .position))) r
+    module _ {f : List ℕ} {r : Added} (l : i < length fs) (g : f ≡ getD fs i []) (a : (t : ℕ → List ℕ) (p : Position) (e : Entry) → t i ≡ textOr f (fieldText s f) → Holds j c t k p e → Adds j c t e (fieldAs s (fieldOf judge p) f) r) where
+      added-here : Adds j c (textsIn s fs) (u .entry) (fieldAs s (fieldOf judge (u .position)) (getD fs i [])) r
       unfolding textsIn
       added-here = rw g at (a (textsIn s fs) (u .position) (u .entry) (rw g refl) (u .holds))
 
@@ -160,7 +148,7 @@ module _ {judge : Judge} {s : Scope} {j : Bool} {c : List ℕ} {fs : List (List 
       pub read-fault : {d : Cause} → r .outcome ≡ Fault d → Reads j c (textsIn s fs) (entryOf judge s (drop start fs)) (stopped k d)
       unfolding entryOf
       read-fault {d} q =
-          let z = after-fault judge s (u .entry) (u .position) (getD fs i []) (drop (i + 1) fs) (fault-told _ added-here q) in
+          let z = entry-fault judge s (u .entry) (u .position) (getD fs i []) (drop (i + 1) fs) (fault-told _ added-here q) in
           let w : fieldsFrom judge s first (drop start fs) ≡ fault d = sym (u .whole) ∙ rw (next-of [] fs i l) z in
           record { reads = rw w refl }
 
@@ -169,7 +157,7 @@ module _ {judge : Judge} {s : Scope} {j : Bool} {c : List ℕ} {fs : List (List 
       read-on q =
           let w = good-told _ added-here q in
           let x = w .0 in
-          let z = after-value judge s (u .entry) (u .position) (getD fs i []) (drop (i + 1) fs) (w .1) in
+          let z = entry-on judge s (u .entry) (u .position) (getD fs i []) (drop (i + 1) fs) (w .1) in
           record { position = x .next; entry = followed (u .entry) (x .part); holds = w .2; whole = sym z ∙ rw (← next-of [] fs i l) (u .whole) }
 
     -- behind the last field it is what concerns the whole entry

@@ -5,7 +5,9 @@ use mathlib.Core.List.{List, [], _∷_}
 use mathlib.Core.Option.{Option, none, some}
 use Prim.Native.Nat.{ℕ}
 use native.Mathlib.Omega.{arith}
-use Rattle.fault.specs.Fault.{Reading, fault, value, andThen, needed, readAll, require}
+use Rattle.fault.specs.declared.Cause.{Cause}
+use Rattle.fault.specs.declared.Cause.the-variants.{MissingPart}
+use Rattle.fault.specs.Fault.{Reading, fault, value, andThen, needed, readAll, withFirst, require}
 
 -- ---- a reading that gives a value met no fault on its way
 pub never : {F A X : Type 0} {c : F} {x : A} → _≡_ {A = Reading F A} (fault c) (value x) → X
@@ -25,6 +27,26 @@ required false c r x e = never e
 pub was-needed : {F A B : Type 0} (c : F) (o : Option A) (f : A → Reading F B) (x : B) → needed c o f ≡ value x → (a : A) × (o ≡ some a) × (f a ≡ value x)
 was-needed c none f x e = never e
 was-needed c (some a) f x e = (a, refl, e)
+
+-- ---- a reading by what its first part gives
+module _ {F A B : Type 0} {o : Reading F A} (f : A → Reading F B) where
+  pub then-fault : {c : F} → fault c ≡ o → fault c ≡ andThen o f
+  then-fault e = rw (← e)
+
+  pub then-value : {a : A} {r : Reading F B} → value a ≡ o → r ≡ f a → r ≡ andThen o f
+  then-value e g = rw (← e) g
+
+-- the fields of a line, by its first field
+module _ {A B : Type 0} (r : List ℕ → Reading Cause A) (k : A → List (List ℕ) → Reading Cause B) {fs : List (List ℕ)} where
+  pub first-missing : fs ≡ [] → fault MissingPart ≡ withFirst r fs k
+  first-missing e = rw e
+
+  module _ {f : List ℕ} {rest : List (List ℕ)} (e : fs ≡ f ∷ rest) where
+    pub first-fault : {c : Cause} → fault c ≡ r f → fault c ≡ withFirst r fs k
+    first-fault g = rw (e, ← g)
+
+    pub first-value : {a : A} {o : Reading Cause B} → value a ≡ r f → o ≡ k a rest → o ≡ withFirst r fs k
+    first-value g h = rw (e, ← g) h
 
 -- ---- what holds of every value that a reading can give
 abbrev pub Gives : {F A : Type 0} → (A → Type 0) → Reading F A → Type 0

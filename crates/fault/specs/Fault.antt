@@ -58,6 +58,12 @@ module _ {F A B : Type 0} where
   readAll f [] = value []
   readAll f (x ∷ xs) = andThen (f x) (λ y. andThen (readAll f xs) (λ ys. value (y ∷ ys)))
 
+module _ {A B : Type 0} where
+  -- the first field of a line, and then those behind it; a part is missing where there is no field
+  abbrev pub withFirst : (List ℕ → Reading Cause A) → List (List ℕ) → (A → List (List ℕ) → Reading Cause B) → Reading Cause B
+  withFirst r [] k = fault MissingPart
+  withFirst r (f ∷ fs) k = andThen (r f) (λ a. k a fs)
+
 module _ {F A : Type 0} where
   -- a check: its fault where the test fails
   abbrev pub require : Bool → F → Reading F A → Reading F A

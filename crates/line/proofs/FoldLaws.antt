@@ -13,31 +13,37 @@ use Rattle.text.proofs.Laws.{clash, pick-both}
 use Rattle.fault.specs.Fault.{Reading, fault, value, require}
 use Rattle.fault.proofs.Readings.{never, same-value, and-then, required}
 use Rattle.line.specs.Line.{Line, linesOf, notAbove, lastEnd, cutShort, cutPlace, endsAt, endOfLine}
-use Rattle.line.specs.Fold.{Refusal, cut, located, run, outcome}
+use Rattle.line.specs.Fold.{Located, atBeginning, Refusal, cut, refusing, run, outcome}
 use Rattle.line.proofs.LineLaws.{Ordered, lines-ordered, lines-cut, cut-short, none-above}
 
 -- `keeps`, a decision stays; `fresh`, it is made at the line whose number it has
-pub record Decides {F S D : Type 0} (step : S → Line → Reading F S) (decision : S → Option D) (numberOf : D → ℕ) : Type 0 where
+pub record Decides {F S D : Type 0} (step : S → Line → Reading (Located F) S) (decision : S → Option D) (numberOf : D → ℕ) : Type 0 where
   pub keeps : (s s′ : S) (l : Line) (d : D) → decision s ≡ some d → step s l ≡ value s′ → decision s′ ≡ some d
   pub fresh : (s s′ : S) (l : Line) (d : D) → decision s ≡ none → step s l ≡ value s′ → decision s′ ≡ some d → numberOf d ≡ l .number
 
-was-located : {F S : Type 0} (p : ℕ) (r : Reading F S) (s : S) → located p r ≡ value s → r ≡ value s
-was-located p (fault c) s e = never e
-was-located p (value a) s e = cc
+-- what a line reads where it refuses nothing
+not-refused : {F S : Type 0} (p : ℕ) (r : Reading (Located F) S) (s : S) → refusing p r ≡ value s → r ≡ value s
+not-refused p (fault x) s e = never e
+not-refused p (value a) s e = cc
+
+-- what a reading gives whose faults are told at the beginning
+pub beginning-value : {F S : Type 0} (r : Reading F S) (s : S) → atBeginning r ≡ value s → r ≡ value s
+beginning-value (fault c) s e = never e
+beginning-value (value a) s e = cc
 
 -- the first line of a run that ends well
-first-step : {F S : Type 0} (step : S → Line → Reading F S) (l : Line) (ls : List Line) (s s′ : S) → run step (l ∷ ls) s ≡ value s′ → (s₁ : S) × (step s l ≡ value s₁) × (run step ls s₁ ≡ value s′)
+first-step : {F S : Type 0} (step : S → Line → Reading (Located F) S) (l : Line) (ls : List Line) (s s′ : S) → run step (l ∷ ls) s ≡ value s′ → (s₁ : S) × (step s l ≡ value s₁) × (run step ls s₁ ≡ value s′)
 unfolding run
-first-step step l ls s s′ e = let x = and-then (located (l .begin) (step s l)) _ s′ e in (x .0, was-located (l .begin) (step s l) (x .0) (x .1), x .2)
+first-step step l ls s s′ e = let x = and-then (refusing (l .begin) (step s l)) _ s′ e in (x .0, not-refused (l .begin) (step s l) (x .0) (x .1), x .2)
 
 -- what every line keeps, a run keeps
-pub run-keeps : {F S : Type 0} (step : S → Line → Reading F S) (P : S → Type 0) → ((s s′ : S) (l : Line) → P s → step s l ≡ value s′ → P s′) → (ls : List Line) (s s′ : S) → P s → run step ls s ≡ value s′ → P s′
+pub run-keeps : {F S : Type 0} (step : S → Line → Reading (Located F) S) (P : S → Type 0) → ((s s′ : S) (l : Line) → P s → step s l ≡ value s′ → P s′) → (ls : List Line) (s s′ : S) → P s → run step ls s ≡ value s′ → P s′
 unfolding run
 run-keeps step P k [] s s′ p e = rw (← same-value e) p
 run-keeps step P k (l ∷ ls) s s′ p e = let x = first-step step l ls s s′ e in run-keeps step P k ls (x .0) s′ (k s (x .0) l p (x .1)) (x .2)
 
 -- a text that is decided was run through
-pub run-through : {F S D : Type 0} (continues : ℕ → Bool) (step : S → Line → Reading F S) (decision : S → Option D) (s : S) (t : List ℕ) (o : Option D) → outcome continues step decision s t ≡ value o → (s′ : S) × (run step (linesOf continues t) s ≡ value s′) × (decision s′ ≡ o)
+pub run-through : {F S D : Type 0} (continues : ℕ → Bool) (step : S → Line → Reading (Located F) S) (decision : S → Option D) (s : S) (t : List ℕ) (o : Option D) → outcome continues step decision s t ≡ value o → (s′ : S) × (run step (linesOf continues t) s ≡ value s′) × (decision s′ ≡ o)
 unfolding outcome
 run-through continues step decision s t o e =
     let x = and-then (run step (linesOf continues t) s) _ o e in
@@ -49,7 +55,7 @@ abbrev pub decidedUpTo : {D : Type 0} → (D → ℕ) → List Line → ℕ → 
 decidedUpTo numberOf ls n none = none
 decidedUpTo numberOf ls n (some d) = cond (leb (endOfLine (numberOf d) ls) n) (some d) none
 
-module _ {F S D : Type 0} (step : S → Line → Reading F S) (decision : S → Option D) (numberOf : D → ℕ) (w : Decides step decision numberOf) where
+module _ {F S D : Type 0} (step : S → Line → Reading (Located F) S) (decision : S → Option D) (numberOf : D → ℕ) (w : Decides step decision numberOf) where
   stays : (ls : List Line) (s s′ : S) (d : D) → decision s ≡ some d → run step ls s ≡ value s′ → decision s′ ≡ some d
   stays ls s s′ d = run-keeps step (λ x. decision x ≡ some d) (λ x x′ l v e. w .keeps x x′ l d v e) ls s s′
 

@@ -1,15 +1,16 @@
 -- A fold over the lines of a text, line by line from a place on: for callers that read the lines one after the other.
-use mathlib.Core.Path.{_≡_}
+use mathlib.Core.Path.{_≡_, ap, _∙_}
 use mathlib.Core.Bool.{Bool, not}
 use mathlib.Core.List.{List, []}
 use mathlib.Core.Option.{Option}
 use Prim.Native.Nat.{ℕ, _+_, _-_, _≤_, _<_}
+use native.Mathlib.Nat.{add-zero}
 use borrow.Author.Tests.{lt-ltb, le-ltb}
 use lib.Dec.{ltb}
 use lib.ListN.{length, take, drop, drop-of-length-le}
 use Rattle.fault.specs.Fault.{Reading, fault, value, andThen, require}
 use Rattle.line.specs.Line.{Line, line, endedLines, placed, lastEnd}
-use Rattle.line.specs.Fold.{Refusal, faulty, cut, run, outcome}
+use Rattle.line.specs.Fold.{Located, ofLine, Refusal, faulty, cut, located, run, outcome}
 use Rattle.line.specs.Contract.{linesFrom, LineEnds}
 use Rattle.line.proofs.LineLaws.{short-text}
 
@@ -17,7 +18,7 @@ use Rattle.line.proofs.LineLaws.{short-text}
 abbrev pub lineAt : List ℕ → ℕ → ℕ → ℕ → Line
 lineAt t at e number = line at e number (take (e - 1 - at) (drop at t))
 
-module _ {F S D : Type 0} (continues : ℕ → Bool) (step : S → Line → Reading F S) (decision : S → Option D) (t : List ℕ) where
+module _ {F S D : Type 0} (continues : ℕ → Bool) (step : S → Line → Reading (Located F) S) (decision : S → Option D) (t : List ℕ) where
   -- what the lines from a place on give, where s is the state there
   unfoldable pub outcomeFrom : ℕ → ℕ → S → Reading (Refusal F) (Option D)
   outcomeFrom at number s =
@@ -42,9 +43,13 @@ module _ {F S D : Type 0} (continues : ℕ → Bool) (step : S → Line → Read
 
     module _ {e count : ℕ} (l : LineEnds continues t at e count) where
       -- a line that has a fault
-      pub from-fault : {c : F} → step s (lineAt t at e number) ≡ fault c → outcomeFrom at number s ≡ fault (faulty c at)
+      pub from-fault : {x : Located F} → step s (lineAt t at e number) ≡ fault x → outcomeFrom at number s ≡ fault (located at x)
       unfolding outcomeFrom run
       from-fault f = rw (l .reads number, f)
+
+      -- a fault of the line as a whole refuses the text where the line begins
+      pub from-beginning : {c : F} → step s (lineAt t at e number) ≡ fault (ofLine c) → outcomeFrom at number s ≡ fault (faulty c at)
+      from-beginning {c} f = from-fault f ∙ ap (λ p. fault (faulty c p)) (add-zero at)
 
       -- a line that is good
       pub from-on : {s′ : S} → step s (lineAt t at e number) ≡ value s′ → outcomeFrom at number s ≡ outcomeFrom e (number + count) s′

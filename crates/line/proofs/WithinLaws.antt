@@ -1,4 +1,4 @@
--- The lines of a text of n bytes begin, have their numbers and end within n, and so does what a fold over them tells. Assumes nothing.
+-- The lines of a text of n bytes have their numbers, their bytes and their ends within n, and so does what a fold over them tells. Assumes nothing.
 use mathlib.Core.Path.{_≡_, refl, sym, ap, _∙_}
 use mathlib.Core.Bool.{Bool, true, false, not, cond}
 use mathlib.Core.List.{List, [], _∷_, _++_}
@@ -13,9 +13,9 @@ use Rattle.text.specs.Bytes.{is}
 use Rattle.text.specs.Lists.{count}
 use Rattle.text.proofs.Laws.{clash}
 use Rattle.fault.specs.Fault.{Reading, fault, value, andThen, require}
-use Rattle.fault.proofs.Readings.{Each}
+use Rattle.fault.proofs.Readings.{never, Each}
 use Rattle.line.specs.Line.{Line, placed, endedLines, newlines, linesOf, notAbove, lastEnd, cutShort}
-use Rattle.line.specs.Fold.{Refusal, faulty, cut, located, run, outcome}
+use Rattle.line.specs.Fold.{Located, ofLine, atBeginning, Refusal, faulty, cut, refusing, run, outcome}
 use Rattle.line.specs.Refused.{accepted, refusedFrom, refusedByte}
 use Rattle.line.proofs.LineLaws.{lines-cut}
 
@@ -29,15 +29,15 @@ count-few f (b ∷ s) = by (f b) (count-few f s)
     by true h = omega arith
     by false h = omega arith
 
--- a line begins, has its number and ends within n
+-- a line has its number, its bytes and its end within n
 pub record LineWithin (n : ℕ) (l : Line) : Type 0 where
-  pub begin : l .begin ≤ n
   pub number : l .number ≤ n
+  pub bytes : l .begin + length (l .bytes) ≤ n
   pub end : l .end ≤ n
 
--- a line's number is at most its end, since every line before it has a byte
+-- a line's bytes stand before its end, and its number is at most its end, since every line before it has a byte
 abbrev Numbered : Line → Type 0
-Numbered l = (l .begin ≤ l .end) × (l .number ≤ l .end)
+Numbered l = (l .begin + length (l .bytes) ≤ l .end) × (l .number ≤ l .end)
 
 numbered : (at k : ℕ) (ss : List (List ℕ)) → k ≤ at + 1 → Each Numbered (placed at k ss)
 unfolding placed
@@ -49,7 +49,7 @@ ends-within n [] h = tt
 ends-within n (l ∷ ls) h = by (leb (l .end) n) refl (ends-within n ls (h .1))
   where
     by : (x : Bool) → leb (l .end) n ≡ x → Each (LineWithin n) (notAbove n ls) → Each (LineWithin n) (cond x (l ∷ []) [] ++ notAbove n ls)
-    by true e k = let m = leb-true (l .end) n e in (record { begin = omega (arith, h .0 .0); number = omega (arith, h .0 .1); end = m }, k)
+    by true e k = let m = leb-true (l .end) n e in (record { number = omega (arith, h .0 .1); bytes = omega (arith, h .0 .0); end = m }, k)
     by false e k = k
 
 lines-within : (continues : ℕ → Bool) (t : List ℕ) → Each (LineWithin (length t)) (linesOf continues t)
@@ -85,16 +85,25 @@ abbrev pub ReadWithin : {F A : Type 0} → ℕ → (A → Type 0) → Reading (R
 ReadWithin n P (fault r) = RefusalWithin n r
 ReadWithin n P (value a) = P a
 
+-- every fault of a step is within its line
+abbrev pub FaultsWithin : {F S : Type 0} → (S → Line → Reading (Located F) S) → Type 0
+FaultsWithin {F} {S} step = (s : S) (l : Line) (x : Located F) → step s l ≡ fault x → x .offset ≤ length (l .bytes)
+
+-- one that is told at the beginning is within any number of bytes
+pub beginning-within : {F S : Type 0} (n : ℕ) (r : Reading F S) (x : Located F) → atBeginning r ≡ fault x → x .offset ≤ n
+beginning-within n (fault c) x e = let z : ofLine c ≡ x = cc in rw (← z) (omega arith)
+beginning-within n (value s) x e = never (sym e)
+
 -- what every line of t keeps holds of the outcome over its lines
-module _ {F S D : Type 0} (continues : ℕ → Bool) (step : S → Line → Reading F S) (decision : S → Option D) (t : List ℕ) (P : S → Type 0)
+module _ {F S D : Type 0} (continues : ℕ → Bool) (step : S → Line → Reading (Located F) S) (within : FaultsWithin step) (decision : S → Option D) (t : List ℕ) (P : S → Type 0)
     (keeps : (s s' : S) (l : Line) → LineWithin (length t) l → P s → step s l ≡ value s' → P s') where
   run-within : (ls : List Line) (s : S) → Each (LineWithin (length t)) ls → P s → ReadWithin (length t) P (run step ls s)
   unfolding run
   run-within [] s w h = h
   run-within (l ∷ ls) s w h = by (step s l) refl (λ s' k. run-within ls s' (w .1) k)
     where
-      by : (r : Reading F S) → step s l ≡ r → ((s' : S) → P s' → ReadWithin (length t) P (run step ls s')) → ReadWithin (length t) P (andThen (located (l .begin) r) (run step ls))
-      by (fault c) e k = w .0 .begin
+      by : (r : Reading (Located F) S) → step s l ≡ r → ((s' : S) → P s' → ReadWithin (length t) P (run step ls s')) → ReadWithin (length t) P (andThen (refusing (l .begin) r) (run step ls))
+      by (fault x) e k = omega (arith, w .0 .bytes, within s l x e)
       by (value s') e k = k s' (keeps s s' l (w .0) h e)
 
   pub outcome-within : (Q : Option D → Type 0) (s : S) → ((s' : S) → P s' → Q (decision s')) → P s → ReadWithin (length t) Q (outcome continues step decision s t)

@@ -7,6 +7,7 @@ use Prim.Native.Nat.{ℕ, zero, suc, _+_, _-_, _<_}
 use native.Mathlib.Omega.{arith}
 use native.Mathlib.Decide.{decLe}
 use lib.ListN.{length, drop, getD, drop-of-length-le}
+use lib.Seq.{drop-drop}
 use Rattle.text.proofs.Laws.{next-of, clash}
 use Rattle.fault.specs.Fault.{Reading, fault, value, andThen}
 use Rattle.fault.specs.declared.Cause.{Cause}
@@ -17,10 +18,10 @@ use Rattle.line.specs.Contract.{fieldsIn}
 use Rattle.line.proofs.AccessLaws.{fields-count}
 use Rattle.question.specs.Question.{Question}
 use Rattle.variables.specs.Scope.{Scope, Definition}
-use Rattle.variables.specs.Substitute.{fieldText}
+use Rattle.variables.specs.Substitute.{fieldAs}
 use Rattle.entry.specs.Entry.{entryOf}
 use Rattle.reader.specs.State.{State, scopeOf, withEntry}
-use Rattle.reader.specs.Colon.{ifLine, colonWord}
+use Rattle.reader.specs.Colon.{comparison, restIf, ifLine, wordOf, byWord}
 use Rattle.reader.specs.Read.{judgeFor, entryLine, byKind, fieldsRead}
 use Rattle.reader.specs.Contract.{wordIn, comparedIn}
 use Rattle.reader.specs.declared.word.ColonWord.{ColonWord}
@@ -43,7 +44,7 @@ scope-parts q s u h d = rw (u, h, d)
 module _ (q : Question) (line : ℕ) (s : State) where
   -- ---- the depth left for `:if`
   -- the reader of the rest of an `:if`
-  abbrev deeper : ℕ → Option (List (List ℕ) → Reading Cause State)
+  abbrev pub deeper : ℕ → Option (List (List ℕ) → Reading Cause State)
   deeper zero = none
   deeper (suc d) = some (λ rest. fieldsRead d q line s rest)
 
@@ -73,8 +74,8 @@ module _ (q : Question) (line : ℕ) (s : State) where
   -- ---- a line with a colon
   module _ (d : ℕ) (fs : List (List ℕ)) (n : ℕ) {sc : Scope} (scope : scopeOf q s ≡ sc) where
     -- it is what its word says
-    pub line-word : {f : List ℕ} {w v : ColonWord} → Colon ≡ kindOfLine (drop n fs) → f ≡ getD fs n [] → ((deep : Option (List (List ℕ) → Reading Cause State)) (s′ : State) (xs : List (List ℕ)) → wordIn sc deep s′ xs w ≡ andThen (fieldText sc f) (λ t. colonWord sc deep s′ xs t)) → w ≡ v → fieldsRead d q line s (drop n fs) ≡ wordIn (scopeOf q s) (deeper d) s (drop (n + 1) fs) v
-    line-word {f} {w} {v} e g k h = fields-opened d (drop n fs) ∙ ap (byKind q line (deeper d) s (drop n fs)) (sym e) ∙ rw (next-of [] fs n (line-begins fs n e), ← g, scope, ← h) (sym (k (deeper d) s (drop (n + 1) fs)))
+    pub line-word : {f : List ℕ} {w v : ColonWord} → Colon ≡ kindOfLine (drop n fs) → f ≡ getD fs n [] → wordIn w ≡ fieldAs sc wordOf f → w ≡ v → fieldsRead d q line s (drop n fs) ≡ andThen (wordIn v) (byWord (scopeOf q s) (deeper d) s (drop (n + 1) fs))
+    line-word {f} {w} {v} e g k h = fields-opened d (drop n fs) ∙ ap (byKind q line (deeper d) s (drop n fs)) (sym e) ∙ rw (next-of [] fs n (line-begins fs n e), ← g, scope) (ap (λ o. andThen o (byWord sc (deeper d) s (drop (n + 1) fs))) (sym k ∙ ap wordIn h))
 
     -- `:if` where no depth is left
     pub if-deep : d ≡ 0 → ifLine (scopeOf q s) (deeper d) s (drop (n + 1) fs) ≡ fault IfDepth
@@ -82,5 +83,9 @@ module _ (q : Question) (line : ℕ) (s : State) where
     if-deep h = rw h
 
     -- `:if` is what its comparison says
-    pub if-compared : {r v : Comparison} → (d ≡ 0 → ⊥) → ((deep : List (List ℕ) → Reading Cause State) (s′ : State) → comparedIn deep s′ (drop (n + 1 + 3) fs) r ≡ ifLine sc (some deep) s′ (drop (n + 1) fs)) → r ≡ v → ifLine (scopeOf q s) (deeper d) s (drop (n + 1) fs) ≡ comparedIn (λ xs. fieldsRead (d - 1) q line s xs) s (drop (n + 4) fs) v
-    if-compared h k e = let z : n + 4 ≡ n + 1 + 3 = omega arith in rw (deeper-left d h, scope, z, ← e) (sym (k (λ xs. fieldsRead (d - 1) q line s xs) s))
+    pub if-compared : {r v : Comparison} → (d ≡ 0 → ⊥) → comparedIn r ≡ comparison sc (drop (n + 1) fs) → r ≡ v → ifLine (scopeOf q s) (deeper d) s (drop (n + 1) fs) ≡ andThen (comparedIn v) (restIf (λ xs. fieldsRead (d - 1) q line s xs) s (drop (n + 4) fs))
+    unfolding ifLine
+    if-compared h k e =
+        let z : n + 1 + 3 ≡ n + 4 = omega arith in
+        let y : drop 3 (drop (n + 1) fs) ≡ drop (n + 4) fs = drop-drop 3 (n + 1) fs ∙ ap (λ m. drop m fs) z in
+        rw (deeper-left d h, scope, y) (ap (λ o. andThen o (restIf (λ xs. fieldsRead (d - 1) q line s xs) s (drop (n + 4) fs))) (sym k ∙ ap comparedIn e))

@@ -9,16 +9,16 @@ use lib.ListN.{length, take}
 use lib.Seq.{length-take-le}
 use Rattle.fault.specs.Fault.{Reading, fault, value, andThen}
 use Rattle.fault.specs.declared.Cause.{Cause}
-use Rattle.fault.specs.declared.Cause.the-variants.{NameLength, TextLength, DefineName, TooManyNames, SurplusField, MissingPart}
-use Rattle.fault.proofs.Readings.{same-value, and-then, required, never}
+use Rattle.fault.specs.declared.Cause.the-variants.{NameLength, TextLength, DefineName, TooManyNames, MissingPart}
+use Rattle.fault.proofs.Readings.{same-value, and-then, required, never, then-fault, then-value, first-missing, first-fault, first-value}
 use Rattle.variables.specs.Scope.{Scope, Definition, definition, define, isName, builtIn}
 use Rattle.variables.specs.Define.{defineName, defineText, defineIn}
-use Rattle.variables.specs.Substitute.{fieldText}
+use Rattle.variables.specs.Substitute.{fieldText, fieldAs}
 use Rattle.variables.specs.Contract.{definitionsIn, scopeIn, Goes}
 use Rattle.variables.proofs.DefineLaws.{name-short, text-short}
 use Rattle.reader.specs.State.{State, withDefinition}
-use Rattle.reader.specs.Colon.{defined, textAfter, defineLine}
-use Rattle.reader.specs.Contract.{lastRead, textRead, definitionRead, definitionIn, Within, scopeFor, LineDefines}
+use Rattle.reader.specs.Colon.{surplusField, lastRead, textRead, namedRead, definitionRead, defineLine}
+use Rattle.reader.specs.Contract.{definitionIn, Within, scopeFor, LineDefines}
 use Rattle.reader.specs.declared.define.DefinitionRead.{DefinitionRead}
 use Rattle.variables.specs.declared.DefinePlace.the-variants.{Fault as NoPlace, At as PlaceAt}
 use Rattle.reader.specs.declared.define.DefineRead.the-variants.{Fault as DefineFault, At as DefineAt}
@@ -26,54 +26,33 @@ use Rattle.reader.specs.declared.define.DefinitionRead.the-variants.{Fau
 
 -- ---- the parts of a definition, by what was read of each
 module _ (sc : Scope) where
-  -- a field behind the text is a fault: its own, or that it stands there
-  module _ (d : Definition) (f : List ℕ) (fs : List (List ℕ)) where
-    pub surplus-own : {c : Cause} → fault c ≡ fieldText sc f → lastRead sc d (f ∷ fs) ≡ fault c
-    surplus-own e = rw (← e)
+  -- what stands behind the text
+  module _ (t : List ℕ) {fs : List (List ℕ)} where
+    pub text-last : fs ≡ [] → value t ≡ lastRead sc t fs
+    text-last e = rw e
 
-    pub surplus-text : {t : List ℕ} → value t ≡ fieldText sc f → lastRead sc d (f ∷ fs) ≡ fault SurplusField
-    surplus-text e = rw (← e)
-
-  module _ (n : List ℕ) {fs : List (List ℕ)} where
-    pub text-missing : fs ≡ [] → fault MissingPart ≡ textRead sc n fs
-    text-missing g = rw g
-
-    module _ {f : List ℕ} {rest : List (List ℕ)} (g : fs ≡ f ∷ rest) where
-      pub text-fault : {c : Cause} → fault c ≡ fieldText sc f → fault c ≡ textRead sc n fs
-      text-fault e = rw (g, ← e)
-
-      module _ {t : List ℕ} (e : value t ≡ fieldText sc f) where
-        pub text-refused : {c : Cause} → fault c ≡ defineText t → fault c ≡ textRead sc n fs
-        text-refused h = rw (g, ← e, ← h)
-
-        module _ (h : value t ≡ defineText t) where
-          -- one more field stands behind the text
-          pub text-before : {c : Cause} {f′ : List ℕ} {fs′ : List (List ℕ)} → rest ≡ f′ ∷ fs′ → ((d : Definition) (gs : List (List ℕ)) → lastRead sc d (f′ ∷ gs) ≡ fault c) → fault c ≡ textRead sc n fs
-          text-before {fs′ = fs′} k s = rw (g, ← e, ← h, k) (sym (s (definition n t) fs′))
-
-          -- the text is the last field
-          pub text-last : rest ≡ [] → value (definition n t) ≡ textRead sc n fs
-          text-last k = rw (g, ← e, ← h, k)
+    pub text-before : {c : Cause} {f : List ℕ} {rest : List (List ℕ)} → fs ≡ f ∷ rest → surplusField sc f ≡ fault c → fault c ≡ lastRead sc t fs
+    text-before e h = rw e (sym h)
 
   module _ {fs : List (List ℕ)} where
     pub name-missing : fs ≡ [] → fault MissingPart ≡ definitionRead sc fs
     unfolding definitionRead
-    name-missing g = rw g
+    name-missing e = first-missing (fieldAs sc defineName) (namedRead sc) e
 
-    module _ {f : List ℕ} {rest : List (List ℕ)} (g : fs ≡ f ∷ rest) where
-      pub name-fault : {c : Cause} → fault c ≡ fieldText sc f → fault c ≡ definitionRead sc fs
+    module _ {f : List ℕ} {rest : List (List ℕ)} (e : fs ≡ f ∷ rest) where
+      pub name-fault : {c : Cause} → fault c ≡ fieldAs sc defineName f → fault c ≡ definitionRead sc fs
       unfolding definitionRead
-      name-fault e = rw (g, ← e)
+      name-fault g = first-fault (fieldAs sc defineName) (namedRead sc) e g
 
-      module _ {n : List ℕ} (e : value n ≡ fieldText sc f) where
-        pub name-refused : {c : Cause} → fault c ≡ defineName n → fault c ≡ definitionRead sc fs
+      -- the text behind the name has a fault, or is the definition's
+      module _ {n : List ℕ} (g : value n ≡ fieldAs sc defineName f) where
+        pub named-fault : {c : Cause} → fault c ≡ textRead sc rest → fault c ≡ definitionRead sc fs
         unfolding definitionRead
-        name-refused h = rw (g, ← e, ← h)
+        named-fault h = first-value (fieldAs sc defineName) (namedRead sc) e g (then-fault (λ t. value (definition n t)) h)
 
-        -- the name is good: the text decides
-        pub name-before : value n ≡ defineName n → {o : Reading Cause Definition} → o ≡ textRead sc n rest → o ≡ definitionRead sc fs
+        pub named-text : {t : List ℕ} → value t ≡ textRead sc rest → value (definition n t) ≡ definitionRead sc fs
         unfolding definitionRead
-        name-before h k = rw (g, ← e, ← h) k
+        named-text h = first-value (fieldAs sc defineName) (namedRead sc) e g (then-value (λ t. value (definition n t)) h refl)
 
 -- what the answer tells
 module _ (name text : List ℕ) {r : DefinitionRead} {o : Reading Cause Definition} (w : definitionIn name text r ≡ o) where
@@ -110,63 +89,25 @@ text-again t u e = rw (text-kept t u e) at e
 abbrev Passes : Definition → Type 0
 Passes d = (defineName (d .name) ≡ value (d .name)) × (defineText (d .text) ≡ value (d .text))
 
-last-read : (sc : Scope) (d e : Definition) (fs : List (List ℕ)) → lastRead sc d fs ≡ value e → d ≡ e
-last-read sc d e [] h = same-value h
-last-read sc d e (f ∷ fs) h = never (and-then (fieldText sc f) _ e h .2)
+last-read : (sc : Scope) (t u : List ℕ) (fs : List (List ℕ)) → lastRead sc t fs ≡ value u → t ≡ u
+last-read sc t u [] h = same-value h
+last-read sc t u (f ∷ fs) h = never (and-then (fieldText sc f) _ u h .2)
 
-text-read : (sc : Scope) (n : List ℕ) (d : Definition) (fs : List (List ℕ)) → defineName n ≡ value n → textRead sc n fs ≡ value d → Passes d
-text-read sc n d [] p h = never h
-text-read sc n d (f ∷ fs) p h =
-    let u = and-then (fieldText sc f) _ d h in
-    let v = and-then (defineText (u .0)) _ d (u .2) in
-    rw (← last-read sc (definition n (v .0)) d fs (v .2)) (p, text-again (u .0) (v .0) (v .1))
+text-read : (sc : Scope) (u : List ℕ) (fs : List (List ℕ)) → textRead sc fs ≡ value u → defineText u ≡ value u
+text-read sc u [] h = never h
+text-read sc u (f ∷ fs) h =
+    let v = and-then (fieldAs sc defineText f) (λ t. lastRead sc t fs) u h in
+    let w = and-then (fieldText sc f) defineText (v .0) (v .1) in
+    rw (← last-read sc (v .0) u fs (v .2)) (text-again (w .0) (v .0) (w .2))
 
 definition-read : (sc : Scope) (d : Definition) (fs : List (List ℕ)) → definitionRead sc fs ≡ value d → Passes d
 unfolding definitionRead
 definition-read sc d [] h = never h
 definition-read sc d (f ∷ fs) h =
-    let u = and-then (fieldText sc f) _ d h in
-    let v = and-then (defineName (u .0)) _ d (u .2) in
-    text-read sc (v .0) d fs (name-again (u .0) (v .0) (v .1)) (v .2)
-
--- ---- the line is the definition and then the number of names
-module _ (sc : Scope) (s : State) where
-  -- the state with a definition more, or that it is one too many
-  abbrev pub numbered : Definition → Reading Cause State
-  numbered d = andThen (defineIn d (s .definitions)) (λ ds. value (withDefinition d s))
-
-  line-last : (d : Definition) (fs : List (List ℕ)) → defined sc s d fs ≡ andThen (lastRead sc d fs) numbered
-  line-last d [] = refl
-  line-last d (f ∷ fs) = go (fieldText sc f)
-    where
-      go : (o : Reading Cause (List ℕ)) → andThen o (λ t. fault SurplusField) ≡ andThen (andThen o (λ t. fault SurplusField)) numbered
-      go (fault c) = refl
-      go (value t) = refl
-
-  line-text : (n : List ℕ) (fs : List (List ℕ)) → textAfter sc s n fs ≡ andThen (textRead sc n fs) numbered
-  line-text n [] = refl
-  line-text n (f ∷ fs) = go (fieldText sc f)
-    where
-      checked : (o : Reading Cause (List ℕ)) → andThen o (λ u. defined sc s (definition n u) fs) ≡ andThen (andThen o (λ u. lastRead sc (definition n u) fs)) numbered
-      checked (fault c) = refl
-      checked (value u) = line-last (definition n u) fs
-
-      go : (o : Reading Cause (List ℕ)) → andThen o (λ t. andThen (defineText t) (λ u. defined sc s (definition n u) fs)) ≡ andThen (andThen o (λ t. andThen (defineText t) (λ u. lastRead sc (definition n u) fs))) numbered
-      go (fault c) = refl
-      go (value t) = checked (defineText t)
-
-  pub define-line : (fs : List (List ℕ)) → defineLine sc s fs ≡ andThen (definitionRead sc fs) numbered
-  unfolding defineLine definitionRead
-  define-line [] = refl
-  define-line (f ∷ fs) = go (fieldText sc f)
-    where
-      checked : (o : Reading Cause (List ℕ)) → andThen o (λ n. textAfter sc s n fs) ≡ andThen (andThen o (λ n. textRead sc n fs)) numbered
-      checked (fault c) = refl
-      checked (value n) = line-text n fs
-
-      go : (o : Reading Cause (List ℕ)) → andThen o (λ t. andThen (defineName t) (λ n. textAfter sc s n fs)) ≡ andThen (andThen o (λ t. andThen (defineName t) (λ n. textRead sc n fs))) numbered
-      go (fault c) = refl
-      go (value t) = checked (defineName t)
+    let v = and-then (fieldAs sc defineName f) (λ n. namedRead sc n fs) d h in
+    let w = and-then (fieldText sc f) defineName (v .0) (v .1) in
+    let t = and-then (textRead sc fs) (λ u. value (definition (v .0) u)) d (v .2) in
+    rw (← same-value (t .2)) (name-again (w .0) (v .0) (w .2), text-read sc (t .0) fs (t .1))
 
 -- ---- what the line does, by its definition and the place of it
 -- the variables behind a definition that is not one too many
@@ -177,12 +118,13 @@ defined-value d ds es h = same-value (required (leb (length (define d ds)) 64) T
 module _ (caller host bytes sizes : List ℕ) (names : ℕ) (fs : List (List ℕ)) (name text : List ℕ) where
   -- the definition's fault is the line's
   pub line-fault : {c : Cause} → fault c ≡ definitionRead (scopeIn caller host bytes sizes names) fs → LineDefines caller host bytes sizes names fs name text (DefineFault c)
+  unfolding defineLine
   line-fault {c} e = record { defines = by }
     where
       by : (s : State) → s .definitions ≡ definitionsIn bytes sizes names → defineLine (scopeFor caller host s) s fs ≡ fault c
       by s h =
           let g : fault c ≡ definitionRead (scopeFor caller host s) fs = rw h e in
-          rw (define-line (scopeFor caller host s) s fs, ← g)
+          rw (← g)
 
   module _ (k m : ℕ) (e : value (definition (take k name) (take m text)) ≡ definitionRead (scopeIn caller host bytes sizes names) fs) where
     abbrev read : Definition
@@ -190,10 +132,11 @@ module _ (caller host bytes sizes : List ℕ) (names : ℕ) (fs : List (List ℕ
 
     -- only the number of names is left
     line-is : (s : State) → s .definitions ≡ definitionsIn bytes sizes names → {o : Reading Cause (List Definition)} → defineIn read (definitionsIn bytes sizes names) ≡ o → defineLine (scopeFor caller host s) s fs ≡ andThen o (λ ds. value (withDefinition read s))
+    unfolding defineLine
     line-is s h {o} w =
         let g : value read ≡ definitionRead (scopeFor caller host s) fs = rw h e in
         let v : defineIn read (s .definitions) ≡ o = rw h w in
-        rw (define-line (scopeFor caller host s) s fs, ← g, v)
+        rw (← g, v)
 
     -- it has no place
     pub line-refused : {c : Cause} → Goes bytes sizes names (take k name) (NoPlace c) → LineDefines caller host bytes sizes names fs name text (DefineFault c)

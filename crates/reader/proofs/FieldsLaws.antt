@@ -5,7 +5,7 @@ use Prim.Native.Nat.{ℕ, _+_, _≤_, _<_, min}
 use native.Mathlib.Omega.{arith}
 use lib.ListN.{length, take, drop, getD, drop-of-length-le}
 use Rattle.text.proofs.Laws.{next-of}
-use Rattle.fault.specs.Fault.{Reading, fault, value, andThen}
+use Rattle.fault.specs.Fault.{Reading, fault, value}
 use Rattle.fault.specs.declared.Cause.{Cause}
 use Rattle.line.specs.Contract.{fieldsIn}
 use Rattle.line.proofs.AccessLaws.{fields-count}
@@ -25,13 +25,13 @@ module _ (text ends : List ℕ) (count : ℕ) {m : ℕ} (e : m ≡ min count 64)
   pub fields-next : {f : List ℕ} → i < m → f ≡ getD (fieldsIn text ends count) i [] → drop i (fieldsIn text ends count) ≡ f ∷ drop (i + 1) (fieldsIn text ends count)
   fields-next h g = let k : i < length (fieldsIn text ends count) = omega (arith, fields-count text ends count) in rw g (next-of [] (fieldsIn text ends count) i k)
 
--- what was read behind it
-module _ {A : Type 0} (out : List ℕ) {r : FieldText} (next : List ℕ → Reading Cause A) {o : Reading Cause A} (w : andThen (textReading out r) next ≡ o) where
-  pub then-fault : {c : Cause} → r ≡ NoText c → fault c ≡ o
-  then-fault e = rw e at w
+-- what an answer tells of a text in a buffer
+module _ (out : List ℕ) {r : FieldText} {o : Reading Cause (List ℕ)} (w : textReading out r ≡ o) where
+  pub reading-fault : {c : Cause} → r ≡ NoText c → fault c ≡ o
+  reading-fault e = rw e at w
 
-  pub then-text : {n : ℕ} → r ≡ Text n → next (take n out) ≡ o
-  then-text e = rw e at w
+  pub reading-text : {n : ℕ} → r ≡ Text n → value (take n out) ≡ o
+  reading-text e = rw e at w
 
 pub length-fits : {r : FieldText} {n m : ℕ} → lengthTold r ≤ m → r ≡ Text n → n ≤ m
 length-fits h e = rw e at h

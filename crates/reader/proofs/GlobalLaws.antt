@@ -16,14 +16,14 @@ use Rattle.variables.specs.Scope.{Scope}
 use Rattle.variables.specs.Substitute.{fieldText}
 use Rattle.options.specs.Options.{over}
 use Rattle.options.specs.Arguments.{ArgumentPattern}
-use Rattle.options.specs.Read.{Setting, optionOf, argumentsOf, twice}
+use Rattle.options.specs.Read.{Setting, argumentsOf, twice}
 use Rattle.options.specs.Contract.{optionsIn, valueIn, settingIn, noted, failures, failuresAfter}
 use Rattle.options.specs.declared.setting.OptionSetting.{OptionSetting}
 use Rattle.options.proofs.LineLaws.{options-more, arguments-more, line-more, line-twice}
 use Rattle.options.proofs.ReadLaws.{value-length}
 use Rattle.options.proofs.ArgumentLaws.{failures-more}
-use Rattle.reader.specs.Colon.{globalField}
-use Rattle.reader.specs.Contract.{globalRead, Sums, AddsIn, Adds, Reads}
+use Rattle.reader.specs.Colon.{globalSetting, globalField, globalRead}
+use Rattle.reader.specs.Contract.{Sums, AddsIn, Adds, Reads}
 use Rattle.reader.specs.declared.global.GlobalRead.{GlobalRead}
 use Rattle.reader.specs.declared.global.GlobalOutcome.the-variants.{Fault as GlobalFault, Good as GlobalGood}
 
@@ -108,13 +108,13 @@ module _ {ps : List ArgumentPattern} {xs : List (List ℕ)} {sc : Scope} {fs : L
     reads-bad e h = faults (rw (← g, ← e)) h
 
     -- what the next field's text adds
-    module _ {t : List ℕ} (e : value t ≡ fieldText sc f) {r : GlobalRead} (h : Adds ps xs (w .settings) (needed OptionName (optionOf true t) (λ o. o)) r) where
-      field-is : globalField sc (getD fs i []) ≡ needed OptionName (optionOf true t) (λ o. o)
+    module _ {t : List ℕ} (e : value t ≡ fieldText sc f) {r : GlobalRead} (h : Adds ps xs (w .settings) (globalSetting t) r) where
+      field-is : globalField sc (getD fs i []) ≡ globalSetting t
       field-is = rw (← g, ← e)
 
       -- it is no good option
       pub reads-stopped : {c : Cause} → r .outcome ≡ GlobalFault c → Reads ps xs (globalRead sc (drop from fs)) r
-      reads-stopped q = go (needed OptionName (optionOf true t) (λ o. o)) field-is h
+      reads-stopped q = go (globalSetting t) field-is h
         where
           go : (o : Reading Cause Setting) → globalField sc (getD fs i []) ≡ o → Adds ps xs (w .settings) o r → Reads ps xs (globalRead sc (drop from fs)) r
           go (fault d) f a = faults f (a .adds)
@@ -122,7 +122,7 @@ module _ {ps : List ArgumentPattern} {xs : List (List ℕ)} {sc : Scope} {fs : L
 
       -- its setting stands behind the others
       pub so-far-more : r .outcome ≡ GlobalGood → SoFar ps xs sc fs from (i + 1) r
-      so-far-more q = go (needed OptionName (optionOf true t) (λ o. o)) field-is h
+      so-far-more q = go (globalSetting t) field-is h
         where
           go : (o : Reading Cause Setting) → globalField sc (getD fs i []) ≡ o → Adds ps xs (w .settings) o r → SoFar ps xs sc fs from (i + 1) r
           go (fault d) f a = let z = sym (a .adds) ∙ q in clash cc

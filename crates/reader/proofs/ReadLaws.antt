@@ -1,30 +1,31 @@
 -- What a control line can do to the state, and so to the decision. Assumes nothing.
-use mathlib.Core.Path.{_≡_, sym, ap, _∙_}
-use mathlib.Core.Bool.{Bool, true, false, not, cond, _||_}
+use mathlib.Core.Path.{_≡_, refl, sym, ap, _∙_}
+use mathlib.Core.Bool.{Bool, true, false, not}
 use mathlib.Core.List.{List, [], _∷_}
 use mathlib.Core.Option.{Option, none, some, orElse, Option·map}
 use Prim.Native.Nat.{ℕ, zero, suc}
-use Rattle.text.specs.Bytes.{bytes}
+use lib.ListN.{length, drop}
 use Rattle.text.specs.Lists.{null}
-use Rattle.text.specs.Slice.{same}
 use Rattle.text.proofs.Laws.{else-none}
 use Rattle.fault.specs.declared.Cause.{Cause}
-use Rattle.fault.specs.declared.Cause.the-variants.{ColonWord, EntryTooEarly, MissingPart, OptionTwice}
-use Rattle.fault.specs.Fault.{Reading, fault, value, readAll}
+use Rattle.fault.specs.declared.Cause.the-variants.{EntryTooEarly, MissingPart, OptionTwice}
+use Rattle.fault.specs.Fault.{Reading, value, andThen, readAll}
 use Rattle.fault.proofs.Readings.{never, same-value, and-then, required}
 use Rattle.line.specs.declared.kind.LineKind.{LineKind}
 use Rattle.line.specs.Line.{Line}
 use Rattle.line.specs.Kind.{kindOfLine}
+use Rattle.line.proofs.FoldLaws.{beginning-value}
+use Rattle.line.proofs.WithinLaws.{FaultsWithin, beginning-within}
 use Rattle.question.specs.Question.{Question}
-use Rattle.variables.specs.Scope.{Scope, Definition, definition}
-use Rattle.variables.specs.Define.{defineName, defineText, defineIn}
-use Rattle.variables.specs.Substitute.{fieldText}
+use Rattle.variables.specs.Scope.{Scope, Definition}
+use Rattle.variables.specs.Define.{defineIn}
+use Rattle.variables.specs.Substitute.{fieldAs}
 use Rattle.options.specs.Read.{Setting, twice}
 use Rattle.entry.specs.Entry.{entryOf}
 use Rattle.entry.specs.Field.{Entry}
 use Rattle.entry.specs.Verdict.{Verdict, verdictOf}
 use Rattle.reader.specs.State.{State, decidedAt, scopeOf, withDefinition, withSettings, withEntry}
-use Rattle.reader.specs.Colon.{defined, textAfter, defineLine, globalField, globalLine, operatorOf, operatorHolds, restIf, rightAfter, operatorAfter, ifLine, colonWord}
+use Rattle.reader.specs.Colon.{definitionRead, defineLine, globalField, globalRead, globalLine, comparison, restIf, ifLine, Word, defineWord, globalWord, ifWord, wordOf, byWord}
 use Rattle.reader.specs.Read.{judgeFor, entryLine, byKind, fieldsRead, ifDepth, lineRead}
 use Rattle.line.specs.declared.kind.LineKind.the-variants.{NoField, Colon, Entry as EntryKind}
 use Rattle.line.specs.Scan.{scanned}
@@ -38,31 +39,21 @@ pub data Change (q : Question) (line : ℕ) (s t : State) : Type 0 where
 
 -- ---- `:define` and `:global`
 module _ (sc : Scope) (s t : State) where
-  defined-change : (d : Definition) (fs : List (List ℕ)) → defined sc s d fs ≡ value t → withDefinition d s ≡ t
-  defined-change d [] e = same-value (and-then (defineIn d (s .definitions)) _ t e .2)
-  defined-change d (f ∷ fs) e = never (and-then (fieldText sc f) _ t e .2)
-
-  text-change : (n : List ℕ) (fs : List (List ℕ)) → textAfter sc s n fs ≡ value t → (d : Definition) × (withDefinition d s ≡ t)
-  text-change n [] e = never e
-  text-change n (f ∷ fs) e =
-      let u = and-then (fieldText sc f) _ t e in
-      let v = and-then (defineText (u .0)) _ t (u .2) in
-      (definition n (v .0), defined-change (definition n (v .0)) fs (v .2))
-
   pub define-change : (fs : List (List ℕ)) → defineLine sc s fs ≡ value t → (d : Definition) × (withDefinition d s ≡ t)
   unfolding defineLine
-  define-change [] e = never e
-  define-change (f ∷ fs) e =
-      let u = and-then (fieldText sc f) _ t e in
-      let v = and-then (defineName (u .0)) _ t (u .2) in
-      text-change (v .0) fs (v .2)
+  define-change fs e =
+      let u = and-then (definitionRead sc fs) _ t e in
+      let v = and-then (defineIn (u .0) (s .definitions)) _ t (u .2) in
+      (u .0, same-value (v .2))
 
   pub global-change : (fs : List (List ℕ)) → globalLine sc s fs ≡ value t → (ss : List Setting) × (readAll (globalField sc) fs ≡ value ss) × (withSettings ss s ≡ t)
-  unfolding globalLine
+  unfolding globalLine globalRead
   global-change fs e =
-      let u = and-then (readAll (globalField sc) fs) _ t e in
-      let v = required (not (null (u .0))) MissingPart _ t (u .2) in
-      (u .0, u .1, same-value (required (not (twice (u .0))) OptionTwice _ t (v .1) .1))
+      let u = and-then (globalRead sc fs) _ t e in
+      let v = and-then (readAll (globalField sc) fs) _ (u .0) (u .1) in
+      let w = required (not (null (v .0))) MissingPart _ (u .0) (v .2) in
+      let x = required (not (twice (v .0))) OptionTwice _ (u .0) (w .1) in
+      (v .0, v .1, ap (λ ss. withSettings ss s) (same-value (x .1)) ∙ same-value (u .2))
 
 module _ (q : Question) (line : ℕ) (s t : State) where
   by-define : (fs : List (List ℕ)) → defineLine (scopeOf q s) s fs ≡ value t → Change q line s t
@@ -76,39 +67,20 @@ module _ (q : Question) (line : ℕ) (s t : State) where
   Deeper none = Unit {0}
   Deeper (some f) = (fs : List (List ℕ)) → f fs ≡ value t → Change q line s t
 
-  module _ (deeper : List (List ℕ) → Reading Cause State) (k : Deeper (some deeper)) where
-    by-rest : (taken : Bool) (fs : List (List ℕ)) → restIf deeper s taken fs ≡ value t → Change q line s t
-    by-rest taken [] e = never e
-    by-rest true (f ∷ fs) e = k (f ∷ fs) e
-    by-rest false (f ∷ fs) e = stays (same-value e)
-
-    by-right : (a : List ℕ) (o : Bool) (fs : List (List ℕ)) → rightAfter (scopeOf q s) deeper s a o fs ≡ value t → Change q line s t
-    by-right a o [] e = never e
-    by-right a o (f ∷ fs) e = let u = and-then (fieldText (scopeOf q s) f) _ t e in by-rest (operatorHolds o a (u .0)) fs (u .2)
-
-    by-operator : (a : List ℕ) (fs : List (List ℕ)) → operatorAfter (scopeOf q s) deeper s a fs ≡ value t → Change q line s t
-    by-operator a [] e = never e
-    by-operator a (f ∷ fs) e =
-        let u = and-then (fieldText (scopeOf q s) f) _ t e in
-        let v = and-then (operatorOf (u .0)) _ t (u .2) in
-        by-right a (v .0) fs (v .2)
+  by-rest : (deeper : List (List ℕ) → Reading Cause State) → Deeper (some deeper) → (fs : List (List ℕ)) (taken : Bool) → restIf deeper s fs taken ≡ value t → Change q line s t
+  by-rest deeper k fs true e = k fs e
+  by-rest deeper k fs false e = stays (same-value e)
 
   by-if : (deeper : Option (List (List ℕ) → Reading Cause State)) → Deeper deeper → (fs : List (List ℕ)) → ifLine (scopeOf q s) deeper s fs ≡ value t → Change q line s t
   unfolding ifLine
   by-if none k fs e = never e
-  by-if (some deeper) k [] e = never e
-  by-if (some deeper) k (f ∷ fs) e = let u = and-then (fieldText (scopeOf q s) f) _ t e in by-operator deeper k (u .0) fs (u .2)
+  by-if (some deeper) k fs e = let u = and-then (comparison (scopeOf q s) fs) _ t e in by-rest deeper k (drop 3 fs) (u .0) (u .2)
 
   -- ---- all kinds of lines
-  by-word : (deeper : Option (List (List ℕ) → Reading Cause State)) → Deeper deeper → (fs : List (List ℕ)) (w : List ℕ) → colonWord (scopeOf q s) deeper s fs w ≡ value t → Change q line s t
-  unfolding colonWord
-  by-word deeper k fs w e = by (same w (bytes ":define")) (same w (bytes ":global") || same w (bytes ":global_options")) (same w (bytes ":if")) e
-    where
-      by : (a b c : Bool) → cond a (defineLine (scopeOf q s) s fs) (cond b (globalLine (scopeOf q s) s fs) (cond c (ifLine (scopeOf q s) deeper s fs) (fault ColonWord))) ≡ value t → Change q line s t
-      by true b c x = by-define fs x
-      by false true c x = by-global fs x
-      by false false true x = by-if deeper k fs x
-      by false false false x = never x
+  by-word : (deeper : Option (List (List ℕ) → Reading Cause State)) → Deeper deeper → (fs : List (List ℕ)) (w : Word) → byWord (scopeOf q s) deeper s fs w ≡ value t → Change q line s t
+  by-word deeper k fs defineWord e = by-define fs e
+  by-word deeper k fs globalWord e = by-global fs e
+  by-word deeper k fs ifWord e = by-if deeper k fs e
 
   by-entry : (fs : List (List ℕ)) → entryLine q line s fs ≡ value t → Change q line s t
   unfolding entryLine
@@ -119,8 +91,8 @@ module _ (q : Question) (line : ℕ) (s t : State) where
 
   by-kind : (deeper : Option (List (List ℕ) → Reading Cause State)) → Deeper deeper → (fs : List (List ℕ)) (k : LineKind) → byKind q line deeper s fs k ≡ value t → Change q line s t
   by-kind deeper d fs NoField e = stays (same-value e)
-  by-kind deeper d [] Colon e = stays (same-value e)
-  by-kind deeper d (f ∷ fs) Colon e = let u = and-then (fieldText (scopeOf q s) f) _ t e in by-word deeper d fs (u .0) (u .2)
+  by-kind deeper d [] Colon e = never e
+  by-kind deeper d (f ∷ fs) Colon e = let u = and-then (fieldAs (scopeOf q s) wordOf f) _ t e in by-word deeper d fs (u .0) (u .2)
   by-kind deeper d fs EntryKind e = by-entry fs e
 
   by-fields : (depth : ℕ) (fs : List (List ℕ)) → fieldsRead depth q line s fs ≡ value t → Change q line s t
@@ -130,7 +102,12 @@ module _ (q : Question) (line : ℕ) (s t : State) where
 
 pub line-change : (q : Question) (s t : State) (l : Line) → lineRead q s l ≡ value t → Change q (l .number) s t
 unfolding lineRead
-line-change q s t l e = let u = and-then (scanned (l .bytes)) _ t e in by-fields q (l .number) s t ifDepth (u .0) (u .2)
+line-change q s t l e = let u = and-then (scanned (l .bytes)) _ t (beginning-value (andThen (scanned (l .bytes)) (fieldsRead ifDepth q (l .number) s)) t e) in by-fields q (l .number) s t ifDepth (u .0) (u .2)
+
+-- a fault of a control line is within the line
+pub line-faults : (q : Question) → FaultsWithin (lineRead q)
+unfolding lineRead
+line-faults q s l x e = beginning-within (length (l .bytes)) (andThen (scanned (l .bytes)) (fieldsRead ifDepth q (l .number) s)) x e
 
 -- a line leaves the decision as it was, or makes the first one, with its own number
 pub record Keeps (line : ℕ) (s t : State) : Type 0 where

@@ -1,5 +1,5 @@
 -- The ids that an entry sets have at most 64 bytes. Assumes nothing.
-use mathlib.Core.Bool.{Bool, true, false, not, _&&_}
+use mathlib.Core.Bool.{false, not, _&&_}
 use mathlib.Core.List.{List, [], _∷_, _++_}
 use mathlib.Core.Option.{Option, none, some}
 use Prim.Native.Nat.{ℕ, _+_}
@@ -16,13 +16,12 @@ use Rattle.fault.proofs.Readings.{Gives, gives-fault, gives-value, gives-then, 
 use Rattle.pattern.specs.declared.Syntax.the-variants.{Plain}
 use Rattle.pattern.specs.Tree.{expanded}
 use Rattle.variables.specs.Scope.{Scope}
-use Rattle.variables.specs.Substitute.{fieldText}
+use Rattle.variables.specs.Substitute.{fieldText, fieldAs}
 use Rattle.options.specs.Read.{Setting, optionOf, twice}
 use Rattle.condition.specs.Rightmost.{Judged}
 use Rattle.condition.specs.Condition.{Sort, user, group, time, conditionOf, Judge}
-use Rattle.entry.specs.Field.{Entry, FieldRead, fieldRead, conditionPart, noField, followed, Position, first, pairs, rest, second, fullPath, hasPair, pairAt, pairOf, commandOf, pathField, optionOr, otherOf, fieldOf}
+use Rattle.entry.specs.Field.{Entry, FieldRead, conditionPart, noField, followed, Position, first, pairs, rest, second, fullPath, hasPair, pairAt, pairOf, commandOf, pathField, optionOr, otherOf, fieldOf}
 use Rattle.entry.specs.Entry.{fieldsFrom, completed, entryOf}
-use Rattle.reader.proofs.ReadLaws.{sets}
 use Rattle.reader.proofs.ShortSettings.{ShortSetting, Offers, short-option}
 
 -- the settings of an entry
@@ -69,10 +68,9 @@ module _ (judge : Judge) where
   unfolding fieldsFrom noField followed
   short-fields sc p [] = gives-value ShortEntry tt
   short-fields sc p (f ∷ fs) =
-      gives-after ShortEntry (fieldText sc f) (λ t.
-      gives-then ShortField ShortEntry (fieldOf judge p t) (short-field p t) (λ x u.
+      gives-then ShortField ShortEntry (fieldAs sc (fieldOf judge p) f) (gives-after ShortField (fieldText sc f) (short-field p)) (λ x u.
       gives-then ShortEntry ShortEntry (fieldsFrom judge sc (x .next) fs) (short-fields sc (x .next) fs) (λ e v.
-      gives-value ShortEntry (each-append ShortSetting (x .part .settings) (e .settings) u v))))
+      gives-value ShortEntry (each-append ShortSetting (x .part .settings) (e .settings) u v)))
 
   pub short-entry : (sc : Scope) (fs : List (List ℕ)) → Gives ShortEntry (entryOf judge sc fs)
   unfolding entryOf completed

@@ -1,26 +1,23 @@
 -- What a `:global` makes of the state by value.
-use mathlib.Core.Path.{_≡_, refl, sym, ap, _∙_}
-use mathlib.Core.Bool.{Bool, true, false, not, _||_}
+use mathlib.Core.Path.{_≡_, refl, sym, _∙_}
+use mathlib.Core.Bool.{Bool, false, _||_}
 use mathlib.Core.List.{List}
 use Prim.Native.Nat.{ℕ}
 use lib.ListN.{getD}
-use Rattle.text.specs.Lists.{null}
 use Rattle.text.proofs.Laws.{clash}
-use Rattle.fault.specs.Fault.{Reading, fault, value, andThen, readAll, require}
+use Rattle.fault.specs.Fault.{Reading, fault, value, andThen}
 use Rattle.fault.specs.declared.Cause.{Cause}
-use Rattle.fault.specs.declared.Cause.the-variants.{MissingPart, OptionTwice}
-use Rattle.variables.specs.Scope.{Scope}
 use Rattle.variables.specs.Contract.{definitionsIn, scopeIn}
 use Rattle.options.specs.Options.{Options, over}
 use Rattle.options.specs.Arguments.{ArgumentPattern}
-use Rattle.options.specs.Read.{Setting, hasShell, twice}
+use Rattle.options.specs.Read.{Setting, hasShell}
 use Rattle.options.specs.Contract.{optionsIn, lineOf}
 use Rattle.options.specs.declared.set.OptionSet.{OptionSet}
 use Rattle.options.specs.declared.line.LineOptions.{LineOptions}
 use Rattle.options.proofs.LineLaws.{line-shell}
 use Rattle.reader.specs.State.{State, withSettings}
-use Rattle.reader.specs.Colon.{globalField, globalLine}
-use Rattle.reader.specs.Contract.{scopeFor, globalRead, Sums, Reads, Keeps, Changes}
+use Rattle.reader.specs.Colon.{globalRead, globalLine}
+use Rattle.reader.specs.Contract.{scopeFor, Sums, Reads, Keeps, Changes}
 use Rattle.reader.specs.declared.global.GlobalRead.{GlobalRead}
 use Rattle.reader.specs.declared.state.Reader.{Reader}
 use Rattle.reader.specs.declared.state.Changed.{Changed}
@@ -34,20 +31,6 @@ changes-fault args e h = record { changes = rw e h }
 -- one without leaves the new state
 changes-good : (args : List (List ℕ)) {o : Reading Cause State} {r : Changed} {s : State} → o ≡ value s → r .outcome ≡ LineGood → Keeps args (r .reader) s → Changes args o r
 changes-good args e h k = record { changes = rw e (h, k) }
-
--- a check and what comes behind it
-check-then : (t : Bool) (c : Cause) (o : Reading Cause (List Setting)) (f : List Setting → Reading Cause State) → require t c (andThen o f) ≡ andThen (require t c o) f
-check-then true c o f = refl
-check-then false c o f = refl
-
--- the line is its settings over the state's
-global-line : (sc : Scope) (s : State) (fs : List (List ℕ)) → globalLine sc s fs ≡ andThen (globalRead sc fs) (λ ss. value (withSettings ss s))
-unfolding globalLine globalRead
-global-line sc s fs = go (readAll (globalField sc) fs)
-  where
-    go : (o : Reading Cause (List Setting)) → andThen o (λ ss. require (not (null ss)) MissingPart (require (not (twice ss)) OptionTwice (value (withSettings ss s)))) ≡ andThen (andThen o (λ ss. require (not (null ss)) MissingPart (require (not (twice ss)) OptionTwice (value ss)))) (λ ss. value (withSettings ss s))
-    go (fault c) = refl
-    go (value ss) = ap (require (not (null ss)) MissingPart) (check-then (not (twice ss)) OptionTwice (value ss) (λ ts. value (withSettings ts s))) ∙ check-then (not (null ss)) MissingPart (require (not (twice ss)) OptionTwice (value ss)) (λ ts. value (withSettings ts s))
 
 -- what was read, by its outcome
 module _ {ps : List ArgumentPattern} {args : List (List ℕ)} {g : GlobalRead} where
@@ -76,7 +59,8 @@ module _ (caller host : List ℕ) (fs : List (List ℕ)) {args : List (List ℕ)
 
   -- the line by what was read of its settings
   line-of : {o : Reading Cause (List Setting)} → globalRead (scopeFor caller host s) fs ≡ o → globalLine (scopeFor caller host s) s fs ≡ andThen o (λ ss. value (withSettings ss s))
-  line-of e = rw (global-line (scopeFor caller host s) s fs, e)
+  unfolding globalLine
+  line-of e = rw e
 
   pub global-fault : {c : Cause} {r : Changed} → g .outcome ≡ GlobalFault c → r .outcome ≡ LineFault c → Changes args (globalLine (scopeFor caller host s) s fs) r
   global-fault e h = changes-fault args (line-of (read-fault (globalRead (scopeFor caller host s) fs) read-kept e)) h

@@ -3,41 +3,63 @@ use Prim.Native.Nat.{ℕ}
 use mathlib.Core.Bool.{Bool, true, false, not, cond, _||_}
 use mathlib.Core.List.{List, [], _∷_}
 use mathlib.Core.Option.{Option, none, some}
+use lib.ListN.{drop}
 use Rattle.text.specs.Bytes.{bytes}
 use Rattle.text.specs.Lists.{null}
 use Rattle.text.specs.Slice.{same}
-use Rattle.fault.specs.Fault.{Reading, fault, value, andThen, readAll, needed, require}
+use Rattle.fault.specs.Fault.{Reading, fault, value, andThen, readAll, withFirst, needed, require}
 use Rattle.fault.specs.declared.Cause.{Cause}
 use Rattle.fault.specs.declared.Cause.the-variants.{IfDepth, OptionName, ColonWord, Operator, SurplusField, MissingPart, OptionTwice}
 use Rattle.variables.specs.Scope.{Scope, Definition, definition}
 use Rattle.variables.specs.Define.{defineName, defineText, defineIn}
-use Rattle.variables.specs.Substitute.{fieldText}
+use Rattle.variables.specs.Substitute.{fieldText, fieldAs}
 use Rattle.options.specs.Read.{Setting, optionOf, twice}
 use Rattle.reader.specs.State.{State, withDefinition, withSettings}
 
--- nothing stands behind the text; last of all, too many names
-abbrev pub defined : Scope → State → Definition → List (List ℕ) → Reading Cause State
-defined sc s d [] = andThen (defineIn d (s .definitions)) (λ ds. value (withDefinition d s))
-defined sc s d (f ∷ fs) = andThen (fieldText sc f) (λ t. fault SurplusField)
+-- ---- `:define`
+-- a field behind the text: its own fault, or that it stands there
+abbrev pub surplusField : Scope → List ℕ → Reading Cause (List ℕ)
+surplusField sc f = fieldAs sc (λ u. fault SurplusField) f
+
+-- nothing stands behind the text
+abbrev pub lastRead : Scope → List ℕ → List (List ℕ) → Reading Cause (List ℕ)
+lastRead sc t [] = value t
+lastRead sc t (f ∷ fs) = surplusField sc f
 
 -- the text behind the name
-abbrev pub textAfter : Scope → State → List ℕ → List (List ℕ) → Reading Cause State
-textAfter sc s n [] = fault MissingPart
-textAfter sc s n (f ∷ fs) = andThen (fieldText sc f) (λ t. andThen (defineText t) (λ u. defined sc s (definition n u) fs))
+abbrev pub textRead : Scope → List (List ℕ) → Reading Cause (List ℕ)
+textRead sc fs = withFirst (fieldAs sc defineText) fs (lastRead sc)
 
--- `:define NAME text`
+-- the definition of a name, with the text behind it
+abbrev pub namedRead : Scope → List ℕ → List (List ℕ) → Reading Cause Definition
+namedRead sc n fs = andThen (textRead sc fs) (λ t. value (definition n t))
+
+-- the definition that the fields make, but for the number of names
+unfoldable pub definitionRead : Scope → List (List ℕ) → Reading Cause Definition
+definitionRead sc fs = withFirst (fieldAs sc defineName) fs (namedRead sc)
+
+-- `:define NAME text`; last of all, too many names
 unfoldable pub defineLine : Scope → State → List (List ℕ) → Reading Cause State
-defineLine sc s [] = fault MissingPart
-defineLine sc s (f ∷ fs) = andThen (fieldText sc f) (λ t. andThen (defineName t) (λ n. textAfter sc s n fs))
+defineLine sc s fs = andThen (definitionRead sc fs) (λ d. andThen (defineIn d (s .definitions)) (λ ds. value (withDefinition d s)))
 
--- a field that is no option is malformed
+-- ---- `:global`
+-- a text that is no option is malformed
+abbrev pub globalSetting : List ℕ → Reading Cause Setting
+globalSetting t = needed OptionName (optionOf true t) (λ r. r)
+
+-- a field of the line
 abbrev pub globalField : Scope → List ℕ → Reading Cause Setting
-globalField sc f = andThen (fieldText sc f) (λ t. needed OptionName (optionOf true t) (λ r. r))
+globalField sc = fieldAs sc globalSetting
 
--- `:global` with options only, at least one
+-- the settings of the line: options only, at least one, none twice
+unfoldable pub globalRead : Scope → List (List ℕ) → Reading Cause (List Setting)
+globalRead sc fs = andThen (readAll (globalField sc) fs) (λ ss. require (not (null ss)) MissingPart (require (not (twice ss)) OptionTwice (value ss)))
+
+-- `:global` and its options
 unfoldable pub globalLine : Scope → State → List (List ℕ) → Reading Cause State
-globalLine sc s fs = andThen (readAll (globalField sc) fs) (λ ss. require (not (null ss)) MissingPart (require (not (twice ss)) OptionTwice (value (withSettings ss s))))
+globalLine sc s fs = andThen (globalRead sc fs) (λ ss. value (withSettings ss s))
 
+-- ---- `:if`
 -- an operator tells whether equal bytes take the rest
 unfoldable pub operatorOf : List ℕ → Reading Cause Bool
 operatorOf t = cond (same t (bytes "==")) (value true) (cond (same t (bytes "!=")) (value false) (fault Operator))
@@ -47,32 +69,48 @@ abbrev pub operatorHolds : Bool → List ℕ → List ℕ → Bool
 operatorHolds true a b = same a b
 operatorHolds false a b = not (same a b)
 
--- the rest is not empty; it is read where the comparison holds
-abbrev pub restIf : (List (List ℕ) → Reading Cause State) → State → Bool → List (List ℕ) → Reading Cause State
-restIf deeper s taken [] = fault MissingPart
-restIf deeper s true (f ∷ fs) = deeper (f ∷ fs)
-restIf deeper s false (f ∷ fs) = value s
+-- whether the rest is taken, which must not be empty
+abbrev pub beforeRest : Bool → List ℕ → List ℕ → List (List ℕ) → Reading Cause Bool
+beforeRest o a b rest = require (not (null rest)) MissingPart (value (operatorHolds o a b))
 
 -- B behind the operator
-abbrev pub rightAfter : Scope → (List (List ℕ) → Reading Cause State) → State → List ℕ → Bool → List (List ℕ) → Reading Cause State
-rightAfter sc deeper s a o [] = fault MissingPart
-rightAfter sc deeper s a o (f ∷ fs) = andThen (fieldText sc f) (λ b. restIf deeper s (operatorHolds o a b) fs)
+abbrev pub behindOperator : Scope → List ℕ → Bool → List (List ℕ) → Reading Cause Bool
+behindOperator sc a o fs = withFirst (fieldText sc) fs (beforeRest o a)
 
 -- the operator behind A
-abbrev pub operatorAfter : Scope → (List (List ℕ) → Reading Cause State) → State → List ℕ → List (List ℕ) → Reading Cause State
-operatorAfter sc deeper s a [] = fault MissingPart
-operatorAfter sc deeper s a (f ∷ fs) = andThen (fieldText sc f) (λ t. andThen (operatorOf t) (λ o. rightAfter sc deeper s a o fs))
+abbrev pub behindLeft : Scope → List ℕ → List (List ℕ) → Reading Cause Bool
+behindLeft sc a fs = withFirst (fieldAs sc operatorOf) fs (behindOperator sc a)
 
--- `:if A == B rest`, with a reader for the rest; none where it stands too deep
+-- `A == B rest`: whether the rest is taken
+unfoldable pub comparison : Scope → List (List ℕ) → Reading Cause Bool
+comparison sc fs = withFirst (fieldText sc) fs (behindLeft sc)
+
+-- the rest is read where it is taken
+abbrev pub restIf : (List (List ℕ) → Reading Cause State) → State → List (List ℕ) → Bool → Reading Cause State
+restIf deeper s rest true = deeper rest
+restIf deeper s rest false = value s
+
+-- `:if A == B rest`, with a reader for the rest, which stands behind three fields; none where it stands too deep
 unfoldable pub ifLine : Scope → Option (List (List ℕ) → Reading Cause State) → State → List (List ℕ) → Reading Cause State
 ifLine sc none s fs = fault IfDepth
-ifLine sc (some deeper) s [] = fault MissingPart
-ifLine sc (some deeper) s (f ∷ fs) = andThen (fieldText sc f) (λ a. operatorAfter sc deeper s a fs)
+ifLine sc (some deeper) s fs = andThen (comparison sc fs) (restIf deeper s (drop 3 fs))
+
+-- ---- the colon word
+pub data Word : Type 0 where
+  defineWord : Word
+  globalWord : Word
+  ifWord : Word
 
 -- any other colon word is malformed
-unfoldable pub colonWord : Scope → Option (List (List ℕ) → Reading Cause State) → State → List (List ℕ) → List ℕ → Reading Cause State
-colonWord sc deeper s fs w =
-    cond (same w (bytes ":define")) (defineLine sc s fs)
-    (cond (same w (bytes ":global") || same w (bytes ":global_options")) (globalLine sc s fs)
-    (cond (same w (bytes ":if")) (ifLine sc deeper s fs)
+unfoldable pub wordOf : List ℕ → Reading Cause Word
+wordOf w =
+    cond (same w (bytes ":define")) (value defineWord)
+    (cond (same w (bytes ":global") || same w (bytes ":global_options")) (value globalWord)
+    (cond (same w (bytes ":if")) (value ifWord)
     (fault ColonWord)))
+
+-- the fields behind the word
+abbrev pub byWord : Scope → Option (List (List ℕ) → Reading Cause State) → State → List (List ℕ) → Word → Reading Cause State
+byWord sc deeper s fs defineWord = defineLine sc s fs
+byWord sc deeper s fs globalWord = globalLine sc s fs
+byWord sc deeper s fs ifWord = ifLine sc deeper s fs

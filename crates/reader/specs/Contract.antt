@@ -1,27 +1,24 @@
 -- What the state by value stands for, and what the answers of the code say: cited by contracts and proofs only.
 use Prim.Native.Nat.{ℕ, _≤_, _<_}
 use mathlib.Core.Path.{_≡_}
-use mathlib.Core.Bool.{Bool, true, false, not}
+use mathlib.Core.Bool.{Bool, true, false}
 use mathlib.Core.List.{List, [], _∷_, _++_}
-use mathlib.Core.Option.{Option}
 use lib.ListN.{length, take, drop}
-use Rattle.text.specs.Lists.{null}
-use Rattle.fault.specs.Fault.{Reading, fault, value, andThen, readAll, require}
+use Rattle.fault.specs.Fault.{Reading, fault, value, andThen}
 use Rattle.fault.specs.declared.Cause.{Cause}
-use Rattle.fault.specs.declared.Cause.the-variants.{SurplusField, MissingPart, OptionTwice}
 use Rattle.question.specs.Question.{Question}
 use Rattle.variables.specs.Scope.{Scope, Definition, definition, define}
-use Rattle.variables.specs.Define.{nameLimit, textLimit, namesLimit, defineName, defineText}
-use Rattle.variables.specs.Substitute.{fieldText}
-use Rattle.variables.specs.Contract.{definitionsIn, Stores}
-use Rattle.options.specs.Options.{Options}
+use Rattle.variables.specs.Define.{nameLimit, textLimit, namesLimit}
+use Rattle.variables.specs.Contract.{definitionsIn, Stores, textReading, lengthTold}
+use Rattle.variables.specs.declared.field.FieldText.{FieldText}
 use Rattle.options.specs.Arguments.{ArgumentPattern}
-use Rattle.options.specs.Read.{Setting, optionsOf, argumentsOf, twice}
+use Rattle.options.specs.Read.{Setting, optionsOf, argumentsOf}
 use Rattle.options.specs.Contract.{optionsIn, lineOf, failures}
+use Rattle.options.specs.declared.arguments.Failures.{Failures}
 use Rattle.entry.specs.Entry.{entryOf}
 use Rattle.reader.specs.State.{State, scopeOf, withDefinition, withEntry}
-use Rattle.reader.specs.Colon.{globalField, defineLine, globalLine, ifLine}
-use Rattle.reader.specs.Read.{judgeFor}
+use Rattle.reader.specs.Colon.{textRead, definitionRead, defineLine, globalSetting, globalRead, globalLine, Word, defineWord, globalWord, ifWord}
+use Rattle.reader.specs.Read.{judgeFor, fieldsRead}
 use Rattle.reader.specs.declared.word.ColonWord.{ColonWord}
 use Rattle.reader.specs.declared.word.ColonWord.the-variants.{Fault as WordFault, Define as WordDefine, Global as WordGlobal, If as WordIf}
 use Rattle.reader.specs.declared.conditional.Comparison.{Comparison}
@@ -41,12 +38,12 @@ use Rattle.reader.specs.declared.state.Changed.{Changed}
 use Rattle.reader.specs.declared.state.LineOutcome.the-variants.{Fault as LineFault, Good as LineGood}
 
 -- ---- what a control line does
--- a colon word's line, by the word
-abbrev pub wordIn : Scope → Option (List (List ℕ) → Reading Cause State) → State → List (List ℕ) → ColonWord → Reading Cause State
-wordIn sc deeper s fs (WordFault c) = fault c
-wordIn sc deeper s fs WordDefine = defineLine sc s fs
-wordIn sc deeper s fs WordGlobal = globalLine sc s fs
-wordIn sc deeper s fs WordIf = ifLine sc deeper s fs
+-- the colon word
+abbrev pub wordIn : ColonWord → Reading Cause Word
+wordIn (WordFault c) = fault c
+wordIn WordDefine = value defineWord
+wordIn WordGlobal = value globalWord
+wordIn WordIf = value ifWord
 
 -- whether equal bytes take the rest
 abbrev pub operatorIn : Operator → Reading Cause Bool
@@ -54,11 +51,11 @@ operatorIn (OperatorFault c) = fault c
 operatorIn Equal = value true
 operatorIn NotEqual = value false
 
--- an `:if` with a reader for its rest
-abbrev pub comparedIn : (List (List ℕ) → Reading Cause State) → State → List (List ℕ) → Comparison → Reading Cause State
-comparedIn deeper s fs (ComparisonFault c) = fault c
-comparedIn deeper s fs Passed = value s
-comparedIn deeper s fs Taken = deeper fs
+-- whether the rest of an `:if` is taken
+abbrev pub comparedIn : Comparison → Reading Cause Bool
+comparedIn (ComparisonFault c) = fault c
+comparedIn Passed = value false
+comparedIn Taken = value true
 
 -- what is left to do with the fields of a line, from one of them on
 abbrev pub acted : Question → ℕ → State → List (List ℕ) → Action → Reading Cause State
@@ -68,25 +65,19 @@ acted q line s fs (Define i) = defineLine (scopeOf q s) s (drop i fs)
 acted q line s fs (Global i) = globalLine (scopeOf q s) s (drop i fs)
 acted q line s fs (Entry i) = andThen (entryOf (judgeFor q) (scopeOf q s) (drop i fs)) (λ e. value (withEntry q line e s))
 
+-- what the line does that the fields make from one of them on, with the depth left for `:if`: for every question and state with these parts
+pub record LineActs (fs : List (List ℕ)) (from depth : ℕ) (shell : Bool) (caller host : List ℕ) (definitions : List Definition) (r : Action) : Type 0 where
+  pub acts : (q : Question) (line : ℕ) (s : State) → q .user ≡ caller → q .host ≡ host → s .definitions ≡ definitions → s .shell ≡ shell → fieldsRead depth q line s (drop from fs) ≡ acted q line s fs r
+
 -- the scope of a caller, a host and the variables of a state
 abbrev pub scopeFor : List ℕ → List ℕ → State → Scope
 scopeFor caller host s = record { caller = caller; host = host; definitions = s .definitions }
 
 -- ---- `:define`
--- nothing stands behind the text
-abbrev pub lastRead : Scope → Definition → List (List ℕ) → Reading Cause Definition
-lastRead sc d [] = value d
-lastRead sc d (f ∷ fs) = andThen (fieldText sc f) (λ t. fault SurplusField)
-
--- the text behind the name
-abbrev pub textRead : Scope → List ℕ → List (List ℕ) → Reading Cause Definition
-textRead sc n [] = fault MissingPart
-textRead sc n (f ∷ fs) = andThen (fieldText sc f) (λ t. andThen (defineText t) (λ u. lastRead sc (definition n u) fs))
-
--- the definition that the fields make, but for the number of names
-unfoldable pub definitionRead : Scope → List (List ℕ) → Reading Cause Definition
-definitionRead sc [] = fault MissingPart
-definitionRead sc (f ∷ fs) = andThen (fieldText sc f) (λ t. andThen (defineName t) (λ n. textRead sc n fs))
+-- the text that the fields make is at the beginning of its buffer
+pub record ReadsText (sc : Scope) (fs : List (List ℕ)) (text : List ℕ) (r : FieldText) : Type 0 where
+  pub reading : textReading text r ≡ textRead sc fs
+  pub within : lengthTold r ≤ length text
 
 -- the definition at the beginnings of two buffers
 abbrev pub definitionIn : List ℕ → List ℕ → DefinitionRead → Reading Cause Definition
@@ -98,6 +89,11 @@ abbrev pub Within : List ℕ → List ℕ → DefinitionRead → Type 0
 Within name text (DefinitionFault c) = Unit {0}
 Within name text (DefinitionGood k n) = (k ≤ length name) × (n ≤ length text)
 
+-- the definition that the fields make is at the beginnings of its buffers
+pub record ReadsDefinition (sc : Scope) (fs : List (List ℕ)) (name text : List ℕ) (r : DefinitionRead) : Type 0 where
+  pub reading : definitionIn name text r ≡ definitionRead sc fs
+  pub within : Within name text r
+
 -- the line's fault, or: whoever stores the definition at the place has the variables of the new state
 abbrev pub LineDefinesIn : List ℕ → List ℕ → List ℕ → List ℕ → ℕ → List (List ℕ) → List ℕ → List ℕ → DefineRead → Type 0
 LineDefinesIn caller host bytes sizes names fs name text (DefineFault c) = (s : State) → s .definitions ≡ definitionsIn bytes sizes names → defineLine (scopeFor caller host s) s fs ≡ fault c
@@ -107,10 +103,6 @@ pub record LineDefines (caller host bytes sizes : List ℕ) (names : ℕ) (fs : 
   pub defines : LineDefinesIn caller host bytes sizes names fs name text r
 
 -- ---- `:global`
--- the settings of the line
-unfoldable pub globalRead : Scope → List (List ℕ) → Reading Cause (List Setting)
-globalRead sc fs = andThen (readAll (globalField sc) fs) (λ ss. require (not (null ss)) MissingPart (require (not (twice ss)) OptionTwice (value ss)))
-
 -- what is kept of the settings so far
 pub record Sums (ps : List ArgumentPattern) (args : List (List ℕ)) (r : GlobalRead) (ss : List Setting) : Type 0 where
   pub options : optionsIn (r .options) ≡ optionsOf ss
@@ -125,6 +117,10 @@ AddsIn ps args ss (value k) r = (r .outcome ≡ GlobalGood) × Sums ps args r (s
 pub record Adds (ps : List ArgumentPattern) (args : List (List ℕ)) (ss : List Setting) (o : Reading Cause Setting) (r : GlobalRead) : Type 0 where
   pub adds : AddsIn ps args ss o r
 
+-- a field with this text more, whatever patterns are in force and whatever settings stand before it
+pub record AddsText (text : List ℕ) (args : List (List ℕ)) (before r : GlobalRead) : Type 0 where
+  pub addsTo : (ps : List ArgumentPattern) (ss : List Setting) → length text ≤ 1024 → Sums ps args before ss → Adds ps args ss (globalSetting text) r
+
 -- all fields: the first fault, or all settings
 abbrev pub ReadsIn : List ArgumentPattern → List (List ℕ) → Reading Cause (List Setting) → GlobalRead → Type 0
 ReadsIn ps args (fault c) r = r .outcome ≡ GlobalFault c
@@ -132,6 +128,10 @@ ReadsIn ps args (value ss) r = (r .outcome ≡ GlobalGood) × Sums ps args r ss
 
 pub record Reads (ps : List ArgumentPattern) (args : List (List ℕ)) (o : Reading Cause (List Setting)) (r : GlobalRead) : Type 0 where
   pub reads : ReadsIn ps args o r
+
+-- the settings of the line, whatever patterns are in force, by which of the arguments fail them
+pub record ReadsSettings (sc : Scope) (fs args : List (List ℕ)) (failing : Failures) (r : GlobalRead) : Type 0 where
+  pub readsWith : (ps : List ArgumentPattern) → failing .at ≡ failures ps args → Reads ps args (globalRead sc fs) r
 
 -- ---- the state
 -- the state by value is the meaning's, but for the variables and the decision: of the argument patterns in force it keeps which arguments fail
@@ -147,3 +147,7 @@ ChangesIn args (value s) r = (r .outcome ≡ LineGood) × Keeps args (r .reader)
 
 pub record Changes (args : List (List ℕ)) (o : Reading Cause State) (r : Changed) : Type 0 where
   pub changes : ChangesIn args o r
+
+-- a `:global` changes every state that the reader keeps and that has these variables
+pub record GlobalChanges (caller host : List ℕ) (definitions : List Definition) (args fs : List (List ℕ)) (before : Reader) (r : Changed) : Type 0 where
+  pub changesEach : (s : State) → Keeps args before s → s .definitions ≡ definitions → Changes args (globalLine (scopeFor caller host s) s fs) r

@@ -7,17 +7,13 @@ use text::slice::equal;
 use variables::Variables;
 use variables::field::FieldText;
 use variables::field::field_text;
-ghost use Prim.Native.Nat.{ℕ, _+_};
 ghost use mathlib.Core.Path.{_≡_};
-ghost use mathlib.Core.List.{List, _∷_};
-ghost use mathlib.Core.Option.{some};
 ghost use lib.ListN.{drop};
-ghost use Rattle.fault.specs.Fault.{Reading, andThen};
+ghost use Rattle.fault.specs.Fault.{value as good};
 ghost use Rattle.line.specs.Contract.{fieldsIn};
-ghost use Rattle.variables.specs.Substitute.{fieldText};
+ghost use Rattle.variables.specs.Substitute.{fieldAs};
 ghost use Rattle.variables.specs.Contract.{scopeIn};
-ghost use Rattle.reader.specs.State.{State};
-ghost use Rattle.reader.specs.Colon.{operatorOf, operatorHolds, restIf, rightAfter, operatorAfter, ifLine};
+ghost use Rattle.reader.specs.Colon.{operatorOf, operatorHolds, behindOperator, behindLeft, comparison};
 ghost use Rattle.reader.specs.Contract.{operatorIn, comparedIn};
 
 pub enum Comparison {
@@ -55,7 +51,7 @@ fn operator_of<'a>(
     sizes: &'a [usize; Variables::SIZES],
     names: usize,
 ) -> Operator
-    ensures { λ r. ⌜ operatorIn r ≡ andThen (fieldText (scopeIn (now (user .entry)) (now (host .entry)) (now (bytes .entry)) (now (sizes .entry)) names) (now (written .entry))) operatorOf ⌝ }
+    ensures { λ r. ⌜ operatorIn r ≡ fieldAs (scopeIn (now (user .entry)) (now (host .entry)) (now (bytes .entry)) (now (sizes .entry)) names) operatorOf (now (written .entry)) ⌝ }
 {
     let mut scratch = [0u8; FieldText::BYTES];
     match field_text(bytes, sizes, names, user, host, written, &mut scratch) {
@@ -66,7 +62,7 @@ fn operator_of<'a>(
 
 // Whether the rest is taken.
 fn taken_if(taken: bool) -> Comparison
-    ensures { λ r. ⌜ ((deeper : List (List ℕ) → Reading Cause State) (s : State) (f : List ℕ) (fs : List (List ℕ)) → comparedIn deeper s (f ∷ fs) r ≡ restIf deeper s taken (f ∷ fs)) ⌝ }
+    ensures { λ r. ⌜ comparedIn r ≡ good taken ⌝ }
 {
     if taken {
         return Comparison::Taken;
@@ -76,7 +72,7 @@ fn taken_if(taken: bool) -> Comparison
 
 // Whether two texts compare as wanted.
 fn compared(a: &[u8], b: &[u8], wanted: bool) -> Comparison
-    ensures { λ r. ⌜ ((deeper : List (List ℕ) → Reading Cause State) (s : State) (f : List ℕ) (fs : List (List ℕ)) → comparedIn deeper s (f ∷ fs) r ≡ restIf deeper s (operatorHolds wanted (now (a .entry)) (now (b .entry))) (f ∷ fs)) ⌝ }
+    ensures { λ r. ⌜ comparedIn r ≡ good (operatorHolds wanted (now (a .entry)) (now (b .entry))) ⌝ }
 {
     if equal(a, b) {
         return taken_if(wanted);
@@ -98,7 +94,9 @@ fn compare_right<'a, 'b>(
     sizes: &'b [usize; Variables::SIZES],
     names: usize,
 ) -> Comparison
-    ensures { λ r. ⌜ ((deeper : List (List ℕ) → Reading Cause State) (s : State) → comparedIn deeper s (drop (from + 1) (fieldsIn (now (text .entry)) (now (ends .entry)) count)) r ≡ rightAfter (scopeIn (now (user .entry)) (now (host .entry)) (now (bytes .entry)) (now (sizes .entry)) names) deeper s (now (left .entry)) wanted (drop from (fieldsIn (now (text .entry)) (now (ends .entry)) count))) ⌝ }
+    ensures { λ r. ⌜ comparedIn r ≡ behindOperator
+        (scopeIn (now (user .entry)) (now (host .entry)) (now (bytes .entry)) (now (sizes .entry)) names)
+        (now (left .entry)) wanted (drop from (fieldsIn (now (text .entry)) (now (ends .entry)) count)) ⌝ }
 {
     let most = at_most(count, ScannedLine::FIELDS);
     if from >= most {
@@ -137,7 +135,9 @@ fn compare_with<'a, 'b>(
     sizes: &'b [usize; Variables::SIZES],
     names: usize,
 ) -> Comparison
-    ensures { λ r. ⌜ ((deeper : List (List ℕ) → Reading Cause State) (s : State) → comparedIn deeper s (drop (from + 2) (fieldsIn (now (text .entry)) (now (ends .entry)) count)) r ≡ operatorAfter (scopeIn (now (user .entry)) (now (host .entry)) (now (bytes .entry)) (now (sizes .entry)) names) deeper s (now (left .entry)) (drop from (fieldsIn (now (text .entry)) (now (ends .entry)) count))) ⌝ }
+    ensures { λ r. ⌜ comparedIn r ≡ behindLeft
+        (scopeIn (now (user .entry)) (now (host .entry)) (now (bytes .entry)) (now (sizes .entry)) names)
+        (now (left .entry)) (drop from (fieldsIn (now (text .entry)) (now (ends .entry)) count)) ⌝ }
 {
     if from >= at_most(count, ScannedLine::FIELDS) {
         return Comparison::Fault(Cause::MissingPart);
@@ -192,7 +192,9 @@ pub fn compare<'a, 'b>(
     sizes: &'b [usize; Variables::SIZES],
     names: usize,
 ) -> Comparison
-    ensures { λ r. ⌜ ((deeper : List (List ℕ) → Reading Cause State) (s : State) → comparedIn deeper s (drop (from + 3) (fieldsIn (now (text .entry)) (now (ends .entry)) count)) r ≡ ifLine (scopeIn (now (user .entry)) (now (host .entry)) (now (bytes .entry)) (now (sizes .entry)) names) (some deeper) s (drop from (fieldsIn (now (text .entry)) (now (ends .entry)) count))) ⌝ }
+    ensures { λ r. ⌜ comparedIn r ≡ comparison
+        (scopeIn (now (user .entry)) (now (host .entry)) (now (bytes .entry)) (now (sizes .entry)) names)
+        (drop from (fieldsIn (now (text .entry)) (now (ends .entry)) count)) ⌝ }
 {
     if from >= at_most(count, ScannedLine::FIELDS) {
         return Comparison::Fault(Cause::MissingPart);

@@ -8,15 +8,9 @@ use line::fields::field;
 use line::kind::LineKind;
 use line::kind::kind_of;
 use variables::Variables;
-ghost use Prim.Native.Nat.{ℕ};
-ghost use mathlib.Core.Path.{_≡_};
-ghost use lib.ListN.{drop};
-ghost use Rattle.question.specs.Question.{Question};
 ghost use Rattle.line.specs.Contract.{fieldsIn};
 ghost use Rattle.variables.specs.Contract.{definitionsIn};
-ghost use Rattle.reader.specs.State.{State};
-ghost use Rattle.reader.specs.Read.{fieldsRead};
-ghost use Rattle.reader.specs.Contract.{acted};
+ghost use Rattle.reader.specs.Contract.{LineActs};
 
 // What is left to do with the fields from one of them on.
 pub enum Action {
@@ -42,7 +36,9 @@ pub fn control_line<'a, 'b>(
     sizes: &'b [usize; Variables::SIZES],
     names: usize,
 ) -> Action
-    ensures { λ r. ⌜ ((q : Question) (line : ℕ) (s : State) → q .user ≡ now (user .entry) → q .host ≡ now (host .entry) → s .definitions ≡ definitionsIn (now (bytes .entry)) (now (sizes .entry)) names → s .shell ≡ shell → fieldsRead depth q line s (drop from (fieldsIn (now (text .entry)) (now (ends .entry)) count)) ≡ acted q line s (fieldsIn (now (text .entry)) (now (ends .entry)) count) r) ⌝ }
+    ensures { λ r. ⌜ LineActs
+        (fieldsIn (now (text .entry)) (now (ends .entry)) count) from depth shell
+        (now (user .entry)) (now (host .entry)) (definitionsIn (now (bytes .entry)) (now (sizes .entry)) names) r ⌝ }
 {
     match kind_of(text, ends, count, from) {
         LineKind::NoField => Action::Nothing,

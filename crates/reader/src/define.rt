@@ -11,15 +11,13 @@ use variables::definition::check_text;
 use variables::field::FieldText;
 use variables::field::field_text;
 use variables::place_for;
-ghost use Prim.Native.Nat.{ℕ, _≤_};
 ghost use mathlib.Core.Path.{_≡_};
-ghost use mathlib.Core.List.{List, _∷_};
-ghost use lib.ListN.{length, drop};
-ghost use Rattle.fault.specs.Fault.{fault, value as good, andThen};
+ghost use lib.ListN.{drop};
+ghost use Rattle.fault.specs.Fault.{fault};
 ghost use Rattle.line.specs.Contract.{fieldsIn};
-ghost use Rattle.variables.specs.Scope.{Definition, definition};
-ghost use Rattle.variables.specs.Contract.{scopeIn, textReading, lengthTold};
-ghost use Rattle.reader.specs.Contract.{lastRead, textRead, definitionRead, definitionIn, Within, LineDefines};
+ghost use Rattle.variables.specs.Contract.{scopeIn};
+ghost use Rattle.reader.specs.Colon.{surplusField};
+ghost use Rattle.reader.specs.Contract.{ReadsText, ReadsDefinition, LineDefines};
 
 // How many bytes name and text have, each in its buffer.
 enum DefinitionRead {
@@ -42,7 +40,7 @@ fn surplus<'a>(
     sizes: &'a [usize; Variables::SIZES],
     names: usize,
 ) -> Cause
-    ensures { λ r. ⌜ ((d : Definition) (fs : List (List ℕ)) → lastRead (scopeIn (now (user .entry)) (now (host .entry)) (now (bytes .entry)) (now (sizes .entry)) names) d (now (written .entry) ∷ fs) ≡ fault r) ⌝ }
+    ensures { λ r. ⌜ surplusField (scopeIn (now (user .entry)) (now (host .entry)) (now (bytes .entry)) (now (sizes .entry)) names) (now (written .entry)) ≡ fault r ⌝ }
 {
     let mut scratch = [0u8; FieldText::BYTES];
     match field_text(bytes, sizes, names, user, host, written, &mut scratch) {
@@ -64,7 +62,10 @@ fn read_text<'a, 'b>(
     names: usize,
     value: &mut [u8; FieldText::BYTES],
 ) -> FieldText
-    ensures { λ r. ⌜ ((n : List ℕ) → andThen (textReading (now (value .exit)) r) (λ t. good (definition n t)) ≡ textRead (scopeIn (now (user .entry)) (now (host .entry)) (now (bytes .entry)) (now (sizes .entry)) names) n (drop from (fieldsIn (now (text .entry)) (now (ends .entry)) count))) × (lengthTold r ≤ length (now (value .exit))) ⌝ }
+    ensures { λ r. ⌜ ReadsText
+        (scopeIn (now (user .entry)) (now (host .entry)) (now (bytes .entry)) (now (sizes .entry)) names)
+        (drop from (fieldsIn (now (text .entry)) (now (ends .entry)) count))
+        (now (value .exit)) r ⌝ }
 {
     let most = at_most(count, ScannedLine::FIELDS);
     if from >= most {
@@ -114,7 +115,10 @@ fn read_definition<'a, 'b>(
     name: &mut [u8; FieldText::BYTES],
     value: &mut [u8; FieldText::BYTES],
 ) -> DefinitionRead
-    ensures { λ r. ⌜ (definitionIn (now (name .exit)) (now (value .exit)) r ≡ definitionRead (scopeIn (now (user .entry)) (now (host .entry)) (now (bytes .entry)) (now (sizes .entry)) names) (drop from (fieldsIn (now (text .entry)) (now (ends .entry)) count))) × Within (now (name .exit)) (now (value .exit)) r ⌝ }
+    ensures { λ r. ⌜ ReadsDefinition
+        (scopeIn (now (user .entry)) (now (host .entry)) (now (bytes .entry)) (now (sizes .entry)) names)
+        (drop from (fieldsIn (now (text .entry)) (now (ends .entry)) count))
+        (now (name .exit)) (now (value .exit)) r ⌝ }
 {
     if from >= at_most(count, ScannedLine::FIELDS) {
         return DefinitionRead::Fault(Cause::MissingPart);
@@ -168,7 +172,10 @@ pub fn read_define<'a, 'b>(
     name: &mut [u8; FieldText::BYTES],
     value: &mut [u8; FieldText::BYTES],
 ) -> DefineRead
-    ensures { λ r. ⌜ LineDefines (now (user .entry)) (now (host .entry)) (now (bytes .entry)) (now (sizes .entry)) names (drop from (fieldsIn (now (text .entry)) (now (ends .entry)) count)) (now (name .exit)) (now (value .exit)) r ⌝ }
+    ensures { λ r. ⌜ LineDefines
+        (now (user .entry)) (now (host .entry)) (now (bytes .entry)) (now (sizes .entry)) names
+        (drop from (fieldsIn (now (text .entry)) (now (ends .entry)) count))
+        (now (name .exit)) (now (value .exit)) r ⌝ }
 {
     match read_definition(
         text,

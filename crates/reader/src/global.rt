@@ -12,19 +12,16 @@ use text::number::at_most;
 use variables::Variables;
 use variables::field::FieldText;
 use variables::field::field_text;
-ghost use Prim.Native.Nat.{ℕ, _≤_};
+ghost use Prim.Native.Nat.{ℕ};
 ghost use mathlib.Core.Path.{_≡_};
-ghost use mathlib.Core.Bool.{true};
 ghost use mathlib.Core.List.{List, []};
-ghost use lib.ListN.{length, drop};
-ghost use Rattle.fault.specs.Fault.{needed};
+ghost use lib.ListN.{drop};
 ghost use Rattle.line.specs.Contract.{fieldsIn};
 ghost use Rattle.question.specs.Contract.{stringsIn};
 ghost use Rattle.variables.specs.Contract.{scopeIn};
 ghost use Rattle.options.specs.Arguments.{ArgumentPattern};
-ghost use Rattle.options.specs.Read.{Setting, optionOf};
 ghost use Rattle.options.specs.Contract.{failures as failuresOf};
-ghost use Rattle.reader.specs.Contract.{globalRead, Sums, Adds, Reads};
+ghost use Rattle.reader.specs.Contract.{Sums, AddsText, ReadsSettings};
 
 // What comes of the fields so far.
 pub enum GlobalOutcome {
@@ -68,7 +65,7 @@ impl GlobalRead {
 
     // With one more field, by its text.
     fn add(self, text: &[u8], args: &[u8]) -> Self
-        ensures { λ r. ⌜ ((ps : List ArgumentPattern) (ss : List Setting) → length (now (text .entry)) ≤ 1024 → Sums ps (stringsIn (now (args .entry))) self ss → Adds ps (stringsIn (now (args .entry))) ss (needed Cause.OptionName (optionOf true (now (text .entry))) (λ o. o)) r) ⌝ }
+        ensures { λ r. ⌜ AddsText (now (text .entry)) (stringsIn (now (args .entry))) self r ⌝ }
     {
         match read_option(text, true) {
             OptionRead::NotOption => self.with_fault(Cause::OptionName),
@@ -103,7 +100,10 @@ pub fn read_global<'a, 'b>(
     sizes: &'b [usize; Variables::SIZES],
     names: usize,
 ) -> GlobalRead
-    ensures { λ r. ⌜ ((ps : List ArgumentPattern) → failures .at ≡ failuresOf ps (stringsIn (now (args .entry))) → Reads ps (stringsIn (now (args .entry))) (globalRead (scopeIn (now (user .entry)) (now (host .entry)) (now (bytes .entry)) (now (sizes .entry)) names) (drop from (fieldsIn (now (text .entry)) (now (ends .entry)) count))) r) ⌝ }
+    ensures { λ r. ⌜ ReadsSettings
+        (scopeIn (now (user .entry)) (now (host .entry)) (now (bytes .entry)) (now (sizes .entry)) names)
+        (drop from (fieldsIn (now (text .entry)) (now (ends .entry)) count))
+        (stringsIn (now (args .entry))) failures r ⌝ }
 {
     let most = at_most(count, ScannedLine::FIELDS);
     let mut read = GlobalRead::new(failures);

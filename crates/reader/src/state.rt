@@ -13,9 +13,8 @@ ghost use lib.ListN.{drop};
 ghost use Rattle.line.specs.Contract.{fieldsIn};
 ghost use Rattle.question.specs.Contract.{stringsIn};
 ghost use Rattle.variables.specs.Contract.{definitionsIn};
-ghost use Rattle.reader.specs.State.{State, start};
-ghost use Rattle.reader.specs.Colon.{globalLine};
-ghost use Rattle.reader.specs.Contract.{Keeps, Changes, scopeFor};
+ghost use Rattle.reader.specs.State.{start};
+ghost use Rattle.reader.specs.Contract.{Keeps, GlobalChanges};
 
 // The options in force, which arguments fail the patterns in force, and whether `patterns=shell` was read.
 pub struct Reader {
@@ -70,7 +69,9 @@ impl Reader {
         sizes: &'b [usize; Variables::SIZES],
         names: usize,
     ) -> Changed
-        ensures { λ r. ⌜ ((s : State) → Keeps (stringsIn (now (args .entry))) self s → s .definitions ≡ definitionsIn (now (bytes .entry)) (now (sizes .entry)) names → Changes (stringsIn (now (args .entry))) (globalLine (scopeFor (now (user .entry)) (now (host .entry)) s) s (drop from (fieldsIn (now (text .entry)) (now (ends .entry)) count))) r) ⌝ }
+        ensures { λ r. ⌜ GlobalChanges
+            (now (user .entry)) (now (host .entry)) (definitionsIn (now (bytes .entry)) (now (sizes .entry)) names)
+            (stringsIn (now (args .entry))) (drop from (fieldsIn (now (text .entry)) (now (ends .entry)) count)) self r ⌝ }
     {
         let failures = self.failures;
         let read = read_global(

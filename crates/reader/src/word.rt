@@ -4,16 +4,10 @@ use text::slice::equal;
 use variables::Variables;
 use variables::field::FieldText;
 use variables::field::field_text;
-ghost use Prim.Native.Nat.{ℕ};
 ghost use mathlib.Core.Path.{_≡_};
-ghost use mathlib.Core.List.{List};
-ghost use mathlib.Core.Option.{Option};
-ghost use Rattle.fault.specs.Fault.{Reading, andThen};
-ghost use Rattle.variables.specs.Scope.{Scope};
-ghost use Rattle.variables.specs.Substitute.{fieldText};
+ghost use Rattle.variables.specs.Substitute.{fieldAs};
 ghost use Rattle.variables.specs.Contract.{scopeIn};
-ghost use Rattle.reader.specs.State.{State};
-ghost use Rattle.reader.specs.Colon.{colonWord};
+ghost use Rattle.reader.specs.Colon.{wordOf};
 ghost use Rattle.reader.specs.Contract.{wordIn};
 
 pub enum ColonWord {
@@ -25,7 +19,7 @@ pub enum ColonWord {
 
 // The word by its text.
 fn word_in(text: &[u8]) -> ColonWord
-    ensures { λ r. ⌜ ((sc : Scope) (deeper : Option (List (List ℕ) → Reading Cause State)) (s : State) (fs : List (List ℕ)) → wordIn sc deeper s fs r ≡ colonWord sc deeper s fs (now (text .entry))) ⌝ }
+    ensures { λ r. ⌜ wordIn r ≡ wordOf (now (text .entry)) ⌝ }
 {
     if equal(text, b":define") {
         return ColonWord::Define;
@@ -51,7 +45,7 @@ pub fn colon_word<'a>(
     sizes: &'a [usize; Variables::SIZES],
     names: usize,
 ) -> ColonWord
-    ensures { λ r. ⌜ ((deeper : Option (List (List ℕ) → Reading Cause State)) (s : State) (fs : List (List ℕ)) → wordIn (scopeIn (now (user .entry)) (now (host .entry)) (now (bytes .entry)) (now (sizes .entry)) names) deeper s fs r ≡ andThen (fieldText (scopeIn (now (user .entry)) (now (host .entry)) (now (bytes .entry)) (now (sizes .entry)) names) (now (word .entry))) (λ w. colonWord (scopeIn (now (user .entry)) (now (host .entry)) (now (bytes .entry)) (now (sizes .entry)) names) deeper s fs w)) ⌝ }
+    ensures { λ r. ⌜ wordIn r ≡ fieldAs (scopeIn (now (user .entry)) (now (host .entry)) (now (bytes .entry)) (now (sizes .entry)) names) wordOf (now (word .entry)) ⌝ }
 {
     let mut scratch = [0u8; FieldText::BYTES];
     match field_text(bytes, sizes, names, user, host, word, &mut scratch) {

@@ -19,7 +19,7 @@ use Rattle.options.specs.Options.{Options}
 use Rattle.entry.specs.Verdict.{Verdict, permit, password, stoppedByNargs, stoppedByArgument, stoppedByPath}
 use Rattle.reader.specs.State.{State, Decision, decidedAt, start}
 use Rattle.reader.specs.Read.{lineRead}
-use Rattle.reader.proofs.ReadLaws.{line-keeps}
+use Rattle.reader.proofs.ReadLaws.{line-keeps, line-faults}
 use Rattle.reader.proofs.ShortIds.{ShortVerdict, ShortDecision, ShortState, short-start, short-keeps}
 use Rattle.reader.proofs.ShortSettings.{ShortIds}
 use Rattle.line.proofs.WithinLaws.{LineWithin, ReadWithin, outcome-within}
@@ -32,7 +32,7 @@ use Rattle.answer.specs.declared.Answer.{Answer}
 use Rattle.answer.specs.declared.Answer.the-variants.{Permit, Password, NoEntry, StoppedByNargs, StoppedByArgument, StoppedByPath, MalformedQuestion, LongTable, RefusedByte, CutShort, RefusedLine, SmallBuffer}
 
 -- ---- what the control lines give
-abbrev DecidedWithin : ℕ → Option Decision → Type 0
+abbrev pub DecidedWithin : ℕ → Option Decision → Type 0
 DecidedWithin n none = Unit {0}
 DecidedWithin n (some d) = d .line ≤ n
 
@@ -56,11 +56,12 @@ held-keeps n q s s' l w h e =
     record { short = short-keeps q s s' l (h .short) e; line = rw (k .decides) (decided-or n (l .number) (s .decision) (k .own) (w .number) (h .line)) }
 
 -- a short decision, on a line within n
-abbrev Give : ℕ → Option Decision → Type 0
+abbrev pub Give : ℕ → Option Decision → Type 0
 Give n o = ShortDecision o × DecidedWithin n o
 
-lines-give : (q : Question) (t : List ℕ) → ReadWithin (length t) (Give (length t)) (linesGive q t)
-lines-give q t = outcome-within backslash (lineRead q) (λ s. s .decision) t (Held (length t)) (held-keeps (length t) q) (Give (length t)) start (λ s h. (h .short .decision, h .line)) (held-start (length t))
+-- places and lines within the table
+pub lines-give : (q : Question) (t : List ℕ) → ReadWithin (length t) (Give (length t)) (linesGive q t)
+lines-give q t = outcome-within backslash (lineRead q) (line-faults q) (λ s. s .decision) t (Held (length t)) (held-keeps (length t) q) (Give (length t)) start (λ s h. (h .short .decision, h .line)) (held-start (length t))
 
 -- ---- the answer
 -- a permit tells a line and the five ends

@@ -7,7 +7,7 @@ use Prim.Native.Nat.{ℕ}
 use Rattle.text.proofs.Laws.{clash}
 use Rattle.fault.specs.Fault.{Reading, fault, value, andThen, require}
 use Rattle.line.specs.Line.{Line, noByte, linesOf, lastEnd, cutShort}
-use Rattle.line.specs.Fold.{Refusal, cut, located, run, outcome}
+use Rattle.line.specs.Fold.{atBeginning, Refusal, cut, refusing, run, outcome}
 use Rattle.line.specs.declared.whole.Acceptance.{Acceptance}
 use Rattle.line.specs.declared.whole.Acceptance.the-variants.{Accepted, Long, RefusedAt}
 use Rattle.line.specs.Whole.{acceptanceOf}
@@ -34,7 +34,7 @@ module _ (q q′ : Question) where
   run-alike [] d d′ = refl
   run-alike (l ∷ ls) d d′ = by (ruleIn (l .bytes)) (run-alike ls)
     where
-      by : (r : Reading Malformed (Option Rule)) → ((e e′ : Option Decision) → faultIn (run (lineRead q) ls e) ≡ faultIn (run (lineRead q′) ls e′)) → faultIn (andThen (located (l .begin) (andThen r (λ o. value (orElse d (bind o (decidedBy q (l .number))))))) (run (lineRead q) ls)) ≡ faultIn (andThen (located (l .begin) (andThen r (λ o. value (orElse d′ (bind o (decidedBy q′ (l .number))))))) (run (lineRead q′) ls))
+      by : (r : Reading Malformed (Option Rule)) → ((e e′ : Option Decision) → faultIn (run (lineRead q) ls e) ≡ faultIn (run (lineRead q′) ls e′)) → faultIn (andThen (refusing (l .begin) (atBeginning (andThen r (λ o. value (orElse d (bind o (decidedBy q (l .number)))))))) (run (lineRead q) ls)) ≡ faultIn (andThen (refusing (l .begin) (atBeginning (andThen r (λ o. value (orElse d′ (bind o (decidedBy q′ (l .number)))))))) (run (lineRead q′) ls))
       by (fault m) rec = refl
       by (value o) rec = rec _ _
 

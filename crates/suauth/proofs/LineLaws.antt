@@ -11,8 +11,9 @@ use Rattle.text.proofs.Laws.{clash}
 use Rattle.fault.specs.Fault.{Reading, fault, value, andThen}
 use Rattle.fault.proofs.Readings.{and-then, same-value}
 use Rattle.line.specs.Line.{Line, noByte}
-use Rattle.line.proofs.FoldLaws.{Decides}
-use Rattle.line.proofs.StepLaws.{outcomeFrom, from-start, from-end, from-cut, from-fault, from-on}
+use Rattle.line.specs.Fold.{atBeginning}
+use Rattle.line.proofs.FoldLaws.{Decides, beginning-value}
+use Rattle.line.proofs.StepLaws.{outcomeFrom, from-start, from-end, from-cut, from-beginning, from-on}
 use Rattle.line.proofs.PlainLaws.{plain-ends, plain-cut}
 use Rattle.suauth.specs.declared.SuAnswer.{SuAnswer}
 use Rattle.suauth.specs.declared.SuAnswer.the-variants.{CutShort, MalformedLine}
@@ -79,7 +80,7 @@ module _ (q : Question) where
           -- a malformed line
           pub so-bad : told ≡ BadLine → MalformedLine at ≡ settled (linesGive q t)
           unfolding lineRead
-          so-bad b = ap settled (sym (from-fault noByte (lineRead q) (λ x. x) t at number d (plain-ends t at end e h) {c = malformed} (rw (here, told-bad (ruleIn (take (end - at) (drop at t))) (sym g ∙ b)))) ∙ f .rest)
+          so-bad b = ap settled (sym (from-beginning noByte (lineRead q) (λ x. x) t at number d (plain-ends t at end e h) {c = malformed} (rw (here, told-bad (ruleIn (take (end - at) (drop at t))) (sym g ∙ b)))) ∙ f .rest)
 
           -- any other
           pub so-on : (told ≡ BadLine → ⊥) → {d′ : Option Decision} → d′ ≡ orElse d (decidedAt number told) → SoFar d′ (end + 1) (number + 1)
@@ -96,7 +97,7 @@ module _ (q : Question) where
                 number
                 d
                 (plain-ends t at end e h)
-                (rw (here, k, g) (told-good d number (ruleIn (take (end - at) (drop at t))) (λ z. b (g ∙ z)))))
+                (rw (here, k, g) (ap atBeginning (told-good d number (ruleIn (take (end - at) (drop at t))) (λ z. b (g ∙ z))))))
                 ∙ f .rest;
           }
 
@@ -105,7 +106,7 @@ module _ (q : Question) where
   -- a line that is read leaves what was decided, or decides by its own rule
   read-by : (d d′ : Option Decision) (l : Line) → lineRead q d l ≡ value d′ → (r : Option Rule) × (orElse d (bind r (decidedBy q (l .number))) ≡ d′)
   unfolding lineRead
-  read-by d d′ l e = let x = and-then (ruleIn (l .bytes)) _ d′ e in (x .0, same-value (x .2))
+  read-by d d′ l e = let x = and-then (ruleIn (l .bytes)) _ d′ (beginning-value (andThen (ruleIn (l .bytes)) (λ r. value (orElse d (bind r (decidedBy q (l .number)))))) d′ e) in (x .0, same-value (x .2))
 
   own-line : (n : ℕ) (r : Option Rule) (d : Decision) → bind r (decidedBy q n) ≡ some d → d .line ≡ n
   unfolding bind

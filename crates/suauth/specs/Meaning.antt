@@ -8,7 +8,7 @@ use Rattle.text.specs.Slice.{same}
 use Rattle.fault.specs.Fault.{Reading, fault, value, andThen}
 use Rattle.question.specs.Question.{stringsOf, userBytes, mostGroups, goodName, goodStrings}
 use Rattle.line.specs.Line.{Line, noByte}
-use Rattle.line.specs.Fold.{Refusal, faulty, cut, outcome}
+use Rattle.line.specs.Fold.{Located, atBeginning, Refusal, faulty, cut, outcome}
 use Rattle.line.specs.Refused.{refusedByte}
 use Rattle.line.specs.declared.whole.Acceptance.{Acceptance}
 use Rattle.line.specs.declared.whole.Acceptance.the-variants.{Accepted, Long, RefusedAt}
@@ -80,9 +80,9 @@ abbrev pub decidedBy : Question → ℕ → Rule → Option Decision
 decidedBy q line r = cond (applies q r) (some (record { line = line; action = r .action })) none
 
 -- one line more: "first applicable line decides"; a malformed one "refuses the file at that line, applicable or not"
-unfoldable pub lineRead : Question → Option Decision → Line → Reading Malformed (Option Decision)
+unfoldable pub lineRead : Question → Option Decision → Line → Reading (Located Malformed) (Option Decision)
 unfolding ruleIn applies orElse bind
-lineRead q d l = andThen (ruleIn (l .bytes)) (λ r. value (orElse d (bind r (decidedBy q (l .number)))))
+lineRead q d l = atBeginning (andThen (ruleIn (l .bytes)) (λ r. value (orElse d (bind r (decidedBy q (l .number))))))
 
 -- what the lines of a file give, "every newline" ending one
 abbrev pub linesGive : Question → List ℕ → Reading (Refusal Malformed) (Option Decision)

@@ -13,7 +13,8 @@ use Rattle.line.specs.Fold.{Refusal, faulty, cut}
 use Rattle.line.specs.declared.whole.Acceptance.{Acceptance}
 use Rattle.line.specs.declared.whole.Acceptance.the-variants.{Accepted, Long, RefusedAt}
 use Rattle.line.specs.Whole.{acceptanceOf}
-use Rattle.line.proofs.WithinLaws.{LineWithin, ReadWithin, outcome-within}
+use Rattle.line.proofs.FoldLaws.{beginning-value}
+use Rattle.line.proofs.WithinLaws.{LineWithin, ReadWithin, FaultsWithin, beginning-within, outcome-within}
 use Rattle.line.proofs.WholeLaws.{accepted-short, refused-within}
 use Rattle.suauth.specs.declared.Action.{Action}
 use Rattle.suauth.specs.declared.Action.the-variants.{Deny, NoPassword, OwnPassword}
@@ -41,14 +42,19 @@ module _ (n : ℕ) (q : Question) where
 
   keeps : (d d' : Option Decision) (l : Line) → LineWithin n l → DecidedWithin n d → lineRead q d l ≡ value d' → DecidedWithin n d'
   unfolding lineRead
-  keeps d d' l w h e = by (ruleIn (l .bytes)) e
+  keeps d d' l w h e = by (ruleIn (l .bytes)) (beginning-value (andThen (ruleIn (l .bytes)) (λ (o : Option Rule). value (orElse d (bind o (decidedBy q (l .number)))))) d' e)
     where
       by : (r : Reading Malformed (Option Rule)) → andThen r (λ (o : Option Rule). value (orElse d (bind o (decidedBy q (l .number))))) ≡ value d' → DecidedWithin n d'
       by (fault m) f = never f
       by (value r) f = rw (← same-value f) (decided-or (l .number) d r (w .number) h)
 
+-- a fault of a line is within the line
+line-faults : (q : Question) → FaultsWithin (lineRead q)
+unfolding lineRead
+line-faults q d l x e = beginning-within (length (l .bytes)) (andThen (ruleIn (l .bytes)) (λ (o : Option Rule). value (orElse d (bind o (decidedBy q (l .number)))))) x e
+
 lines-within : (q : Question) (t : List ℕ) → ReadWithin (length t) (DecidedWithin (length t)) (linesGive q t)
-lines-within q t = outcome-within noByte (lineRead q) (λ d. d) t (DecidedWithin (length t)) (keeps (length t) q) (DecidedWithin (length t)) none (λ d h. h) tt
+lines-within q t = outcome-within noByte (lineRead q) (line-faults q) (λ d. d) t (DecidedWithin (length t)) (keeps (length t) q) (DecidedWithin (length t)) none (λ d h. h) tt
 
 -- ---- the answer
 -- what is told beside an answer's number is at most 32,768

@@ -1,8 +1,7 @@
 use native.Mathlib.Omega.{arith}
 use borrow.Author.Needs.{needs}
-use Rattle.line.specs.Contract.{fieldsIn}
-use Rattle.line.proofs.AccessLaws.{fields-count}
 use Rattle.variables.proofs.TextLaws.{text-kept, text-fault, text-value, text-room, text-length}
+use Rattle.reader.proofs.FieldsLaws.{fields-end, fields-next}
 use Rattle.reader.proofs.ConditionalLaws.{left-missing, left-fault, left-there}
 use Rattle.reader.proofs.conditional.compare.Statement.{statement}
 use Rattle.reader.proofs.conditional.compare.Tie as tie
@@ -11,7 +10,9 @@ at-most-requires : tie.Need-at-most-requires
 at-most-requires c κs = search needs
 
 returns : tie.Need-returns
-returns c = λ deeper s. let a = c .before .before .before .before .before .args in left-missing _ deeper s (fieldsIn (a .text .now) (a .ends .now) (a .count)) (a .from) (omega (arith, fields-count (a .text .now) (a .ends .now) (a .count)))
+returns c =
+    let a = c .before .before .before .before .before .args in
+    left-missing _ (fields-end (a .text .now) (a .ends .now) (a .count) (c .before .at-most .ensures .0) (a .from) (c .if1 .taken))
 
 field-requires : tie.Need-field-requires
 field-requires c κs = search needs
@@ -38,10 +39,16 @@ compare-with-requires : tie.Need-compare-with-requires
 compare-with-requires c κs = search needs
 
 returns-2 : tie.Need-returns-2
-returns-2 c = λ deeper s. let a = c .before .before .before .before .before .before .before .before .before .before .before .args in let n = fields-count (a .text .now) (a .ends .now) (a .count) in left-fault _ deeper s (fieldsIn (a .text .now) (a .ends .now) (a .count)) (a .from) (omega (arith, n)) (c .before .before .before .before .before .field .ensures) (text-fault (c .before .before .before .field-text .ensures) (c .before .cause .given .1))
+returns-2 c =
+    let a = c .before .before .before .before .before .before .before .before .before .before .before .args in
+    let g = fields-next (a .text .now) (a .ends .now) (a .count) (c .before .before .before .before .before .before .before .at-most .ensures .0) (a .from) (c .before .before .before .before .before .before .if1 .left) (c .before .before .before .before .before .field .ensures) in
+    left-fault _ g (text-fault (c .before .before .before .field-text .ensures) (c .before .cause .given .1))
 
 returns-3 : tie.Need-returns-3
-returns-3 c = λ deeper s. let a = c .before .before .before .before .before .before .before .before .before .before .before .before .before .args in let n = fields-count (a .text .now) (a .ends .now) (a .count) in left-there _ deeper s (fieldsIn (a .text .now) (a .ends .now) (a .count)) (a .from) (omega (arith, n)) (c .before .before .before .before .before .before .before .field .ensures) (c .compare-with .result) (text-value (c .before .before .before .before .before .field-text .ensures) (c .before .before .before .n .given .1)) (c .compare-with .ensures deeper s)
+returns-3 c =
+    let a = c .before .before .before .before .before .before .before .before .before .before .before .before .before .args in
+    let g = fields-next (a .text .now) (a .ends .now) (a .count) (c .before .before .before .before .before .before .before .before .before .at-most .ensures .0) (a .from) (c .before .before .before .before .before .before .before .before .if1 .left) (c .before .before .before .before .before .before .before .field .ensures) in
+    left-there _ g (text-value (c .before .before .before .before .before .field-text .ensures) (c .before .before .before .n .given .1)) (c .compare-with .ensures)
 
 pub compare-spec : {M : Type 1} → statement M
 compare-spec =

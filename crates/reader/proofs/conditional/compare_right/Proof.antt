@@ -1,9 +1,14 @@
+use mathlib.Core.Path.{refl}
+use Prim.Native.Nat.{_+_}
 use native.Mathlib.Omega.{arith}
 use borrow.Author.Needs.{needs}
-use Rattle.line.specs.Contract.{fieldsIn}
-use Rattle.line.proofs.AccessLaws.{fields-count}
+use Rattle.fault.proofs.Readings.{first-missing, first-fault, first-value}
+use Rattle.variables.specs.Substitute.{fieldText}
+use Rattle.variables.specs.Contract.{scopeIn}
 use Rattle.variables.proofs.TextLaws.{text-kept, text-fault, text-value, text-room, text-length}
-use Rattle.reader.proofs.ConditionalLaws.{right-missing, right-fault, rest-missing, rest-there}
+use Rattle.reader.specs.Colon.{beforeRest}
+use Rattle.reader.proofs.FieldsLaws.{fields-end, fields-next}
+use Rattle.reader.proofs.ConditionalLaws.{rest-missing, rest-there}
 use Rattle.reader.proofs.conditional.compare_right.Statement.{statement}
 use Rattle.reader.proofs.conditional.compare_right.Tie as tie
 
@@ -11,7 +16,10 @@ at-most-requires : tie.Need-at-most-requires
 at-most-requires c κs = search needs
 
 returns : tie.Need-returns
-returns c = λ deeper s. let a = c .before .before .before .before .before .before .args in right-missing _ deeper s (fieldsIn (a .text .now) (a .ends .now) (a .count)) (a .from) (omega (arith, fields-count (a .text .now) (a .ends .now) (a .count))) _ (a .wanted)
+returns c =
+    let a = c .before .before .before .before .before .before .args in
+    let sc = scopeIn (a .user .now) (a .host .now) (a .bytes .now) (a .sizes .now) (a .names) in
+    first-missing (fieldText sc) (beforeRest (a .wanted) (a .left .now)) (fields-end (a .text .now) (a .ends .now) (a .count) (c .before .at-most .ensures .0) (a .from) (c .if1 .taken))
 
 field-requires : tie.Need-field-requires
 field-requires c κs = search needs
@@ -29,7 +37,12 @@ add-if2 : tie.Need-add-if2
 add-if2 c = search needs
 
 returns-2 : tie.Need-returns-2
-returns-2 c = λ deeper s. let a = c .before .before .before .before .before .before .before .before .before .before .before .before .before .args in let fs = fieldsIn (a .text .now) (a .ends .now) (a .count) in let n = fields-count (a .text .now) (a .ends .now) (a .count) in rest-missing _ deeper s fs (a .from) (omega (arith, n)) (c .before .before .before .before .before .before .field .ensures) _ (a .wanted) (text-value (c .before .before .before .before .field-text .ensures) (c .before .before .n .given .1)) (omega (arith, n))
+returns-2 c =
+    let a = c .before .before .before .before .before .before .before .before .before .before .before .before .before .args in
+    let sc = scopeIn (a .user .now) (a .host .now) (a .bytes .now) (a .sizes .now) (a .names) in
+    let m = c .before .before .before .before .before .before .before .before .at-most .ensures .0 in
+    let g = fields-next (a .text .now) (a .ends .now) (a .count) m (a .from) (c .before .before .before .before .before .before .before .if1 .left) (c .before .before .before .before .before .before .field .ensures) in
+    first-value (fieldText sc) (beforeRest (a .wanted) (a .left .now)) g (text-value (c .before .before .before .before .field-text .ensures) (c .before .before .n .given .1)) (rest-missing (a .wanted) (a .left .now) _ (fields-end (a .text .now) (a .ends .now) (a .count) m (a .from + 1) (c .if2 .taken)))
 
 array-share-prefix-scratch : tie.Need-array-share-prefix-scratch
 array-share-prefix-scratch c = text-room (c .before .before .before .before .field-text .ensures) (c .before .before .n .given .1) (omega arith)
@@ -41,10 +54,20 @@ compared-requires : tie.Need-compared-requires
 compared-requires c κs = search needs
 
 returns-3 : tie.Need-returns-3
-returns-3 c = λ deeper s. let a = c .before .before .before .before .before .before .before .before .before .before .before .before .args in let n = fields-count (a .text .now) (a .ends .now) (a .count) in right-fault _ deeper s (fieldsIn (a .text .now) (a .ends .now) (a .count)) (a .from) (omega (arith, n)) (c .before .before .before .before .before .field .ensures) _ (a .wanted) (text-fault (c .before .before .before .field-text .ensures) (c .before .cause .given .1))
+returns-3 c =
+    let a = c .before .before .before .before .before .before .before .before .before .before .before .before .args in
+    let sc = scopeIn (a .user .now) (a .host .now) (a .bytes .now) (a .sizes .now) (a .names) in
+    let g = fields-next (a .text .now) (a .ends .now) (a .count) (c .before .before .before .before .before .before .before .at-most .ensures .0) (a .from) (c .before .before .before .before .before .before .if1 .left) (c .before .before .before .before .before .field .ensures) in
+    first-fault (fieldText sc) (beforeRest (a .wanted) (a .left .now)) g (text-fault (c .before .before .before .field-text .ensures) (c .before .cause .given .1))
 
 returns-4 : tie.Need-returns-4
-returns-4 c = λ deeper s. let a = c .before .before .before .before .before .before .before .before .before .before .before .before .before .before .before .args in let n = fields-count (a .text .now) (a .ends .now) (a .count) in rest-there _ deeper s (fieldsIn (a .text .now) (a .ends .now) (a .count)) (a .from) (omega (arith, n)) (c .before .before .before .before .before .before .before .before .field .ensures) _ (a .wanted) (c .compared .result) (text-value (c .before .before .before .before .before .before .field-text .ensures) (c .before .before .before .before .n .given .1)) (omega (arith, n)) (c .compared .ensures deeper s)
+returns-4 c =
+    let a = c .before .before .before .before .before .before .before .before .before .before .before .before .before .before .before .args in
+    let sc = scopeIn (a .user .now) (a .host .now) (a .bytes .now) (a .sizes .now) (a .names) in
+    let m = c .before .before .before .before .before .before .before .before .before .before .at-most .ensures .0 in
+    let g = fields-next (a .text .now) (a .ends .now) (a .count) m (a .from) (c .before .before .before .before .before .before .before .before .before .if1 .left) (c .before .before .before .before .before .before .before .before .field .ensures) in
+    let h = fields-next (a .text .now) (a .ends .now) (a .count) m (a .from + 1) (c .before .before .if2 .left) refl in
+    first-value (fieldText sc) (beforeRest (a .wanted) (a .left .now)) g (text-value (c .before .before .before .before .before .before .field-text .ensures) (c .before .before .before .before .n .given .1)) (rest-there (a .wanted) (a .left .now) _ h (c .compared .ensures))
 
 pub compare-right-spec : {M : Type 1} → statement M
 compare-right-spec =

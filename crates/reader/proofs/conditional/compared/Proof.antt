@@ -1,7 +1,6 @@
 use mathlib.Core.Path.{sym, ap, _∙_}
-use mathlib.Core.List.{_∷_}
 use borrow.Author.Needs.{needs}
-use Rattle.reader.specs.Colon.{restIf}
+use Rattle.fault.specs.Fault.{value}
 use Rattle.reader.proofs.ConditionalLaws.{holds-same, holds-other}
 use Rattle.reader.proofs.conditional.compared.Statement.{statement}
 use Rattle.reader.proofs.conditional.compared.Tie as tie
@@ -13,13 +12,13 @@ taken-if-requires : tie.Need-taken-if-requires
 taken-if-requires c κs = search needs
 
 returns : tie.Need-returns
-returns c = λ deeper s f fs. c .taken-if .ensures deeper s f fs ∙ ap (λ t. restIf deeper s t (f ∷ fs)) (holds-same _ _ (c .before .before .before .before .before .args .wanted) (sym (c .before .before .equal .ensures) ∙ c .before .if1 .taken))
+returns c = c .taken-if .ensures ∙ ap value (holds-same _ _ (c .before .before .before .before .before .args .wanted) (sym (c .before .before .equal .ensures) ∙ c .before .if1 .taken))
 
 taken-if-requires-2 : tie.Need-taken-if-requires-2
 taken-if-requires-2 c κs = search needs
 
 returns-2 : tie.Need-returns-2
-returns-2 c = λ deeper s f fs. c .taken-if2 .ensures deeper s f fs ∙ ap (λ t. restIf deeper s t (f ∷ fs)) (holds-other _ _ (c .before .before .before .before .before .args .wanted) (sym (c .before .before .equal .ensures) ∙ c .before .if1 .left))
+returns-2 c = c .taken-if2 .ensures ∙ ap value (holds-other _ _ (c .before .before .before .before .before .args .wanted) (sym (c .before .before .equal .ensures) ∙ c .before .if1 .left))
 
 pub compared-spec : {M : Type 1} → statement M
 compared-spec =

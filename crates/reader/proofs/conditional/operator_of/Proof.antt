@@ -2,7 +2,7 @@ use native.Mathlib.Omega.{arith}
 use borrow.Author.Needs.{needs}
 use Rattle.reader.specs.Colon.{operatorOf}
 use Rattle.variables.proofs.TextLaws.{text-kept, text-fault, text-value, text-room, text-length}
-use Rattle.reader.proofs.WordLaws.{then-fault, then-value}
+use Rattle.fault.proofs.Readings.{then-fault, then-value}
 use Rattle.reader.proofs.conditional.operator_of.Statement.{statement}
 use Rattle.reader.proofs.conditional.operator_of.Tie as tie
 

@@ -3,9 +3,11 @@ use native.Mathlib.Omega.{arith}
 use borrow.Author.Needs.{needs}
 use lib.ListN.{length}
 use lib.Seq.{length-take-le}
-use Rattle.reader.proofs.FieldsLaws.{fields-end, fields-next, then-fault, then-text, length-fits, checked-fault, checked-good}
+use Rattle.fault.proofs.Readings.{then-fault, then-value}
+use Rattle.variables.specs.Define.{defineName}
 use Rattle.variables.proofs.TextLaws.{text-fault, text-value, text-fits}
-use Rattle.reader.proofs.DefineLaws.{name-missing, name-fault, name-refused, name-before}
+use Rattle.reader.proofs.FieldsLaws.{fields-end, fields-next, reading-fault, reading-text, length-fits, checked-fault, checked-good}
+use Rattle.reader.proofs.DefineLaws.{name-missing, name-fault, named-fault, named-text}
 use Rattle.reader.proofs.define.read_definition.Statement.{statement}
 use Rattle.reader.proofs.define.read_definition.Tie as tie
 
@@ -15,7 +17,7 @@ at-most-requires c κs = search needs
 returns : tie.Need-returns
 returns c =
     let a = c .before .before .before .before .before .args in
-    (name-missing _ (fields-end (a .text .now) (a .ends .now) (a .count) (c .before .at-most .ensures .0) (a .from) (c .if1 .taken)), tt)
+    record { reading = name-missing _ (fields-end (a .text .now) (a .ends .now) (a .count) (c .before .at-most .ensures .0) (a .from) (c .if1 .taken)); within = tt }
 
 field-requires : tie.Need-field-requires
 field-requires c κs = search needs
@@ -42,7 +44,8 @@ returns-2 : tie.Need-returns-2
 returns-2 c =
     let a = c .before .before .before .before .before .before .before .before .before .before .before .before .before .before .before .before .before .before .args in
     let g = fields-next (a .text .now) (a .ends .now) (a .count) (c .before .before .before .before .before .before .before .before .before .before .before .before .before .before .at-most .ensures .0) (a .from) (c .before .before .before .before .before .before .before .before .before .before .before .before .before .if1 .left) (c .before .before .before .before .before .before .before .before .before .before .before .before .field .ensures) in
-    (name-refused _ g (text-value (c .before .before .before .before .before .before .before .before .before .before .field-text .ensures) (c .before .before .before .before .before .before .before .before .n .given .1)) (checked-fault _ (c .before .before .before .check-name .ensures) (c .before .cause2 .given .1)), tt)
+    let n = then-value defineName (text-value (c .before .before .before .before .before .before .before .before .before .before .field-text .ensures) (c .before .before .before .before .before .before .before .before .n .given .1)) (checked-fault _ (c .before .before .before .check-name .ensures) (c .before .cause2 .given .1)) in
+    record { reading = name-fault _ g n; within = tt }
 
 enum-told : tie.Need-enum-told
 enum-told c = search needs
@@ -63,21 +66,25 @@ returns-3 : tie.Need-returns-3
 returns-3 c =
     let a = c .before .before .before .before .before .before .before .before .before .before .before .args in
     let g = fields-next (a .text .now) (a .ends .now) (a .count) (c .before .before .before .before .before .before .before .at-most .ensures .0) (a .from) (c .before .before .before .before .before .before .if1 .left) (c .before .before .before .before .before .field .ensures) in
-    (name-fault _ g (text-fault (c .before .before .before .field-text .ensures) (c .before .cause .given .1)), tt)
+    record { reading = name-fault _ g (then-fault defineName (text-fault (c .before .before .before .field-text .ensures) (c .before .cause .given .1))); within = tt }
 
 returns-4 : tie.Need-returns-4
 returns-4 c =
     let a = c .before .before .before .before .before .before .before .before .before .before .before .before .before .before .before .before .before .before .before .before .before .before .args in
     let g = fields-next (a .text .now) (a .ends .now) (a .count) (c .before .before .before .before .before .before .before .before .before .before .before .before .before .before .before .before .before .before .at-most .ensures .0) (a .from) (c .before .before .before .before .before .before .before .before .before .before .before .before .before .before .before .before .before .if1 .left) (c .before .before .before .before .before .before .before .before .before .before .before .before .before .before .before .before .field .ensures) in
-    (name-before _ g (text-value (c .before .before .before .before .before .before .before .before .before .before .before .before .before .before .field-text .ensures) (c .before .before .before .before .before .before .before .before .before .before .before .before .n .given .1)) (checked-good _ (c .before .before .before .before .before .before .before .check-name .ensures) (c .before .before .before .before .before .enum-told .given .1)) (then-fault _ _ (c .before .before .before .read-text .ensures .0 _) (c .before .cause3 .given .1)), tt)
+    let n = then-value defineName (text-value (c .before .before .before .before .before .before .before .before .before .before .before .before .before .before .field-text .ensures) (c .before .before .before .before .before .before .before .before .before .before .before .before .n .given .1)) (checked-good _ (c .before .before .before .before .before .before .before .check-name .ensures) (c .before .before .before .before .before .enum-told .given .1)) in
+    record { reading = named-fault _ g n (reading-fault _ (c .before .before .before .read-text .ensures .reading) (c .before .cause3 .given .1)); within = tt }
 
 returns-5 : tie.Need-returns-5
 returns-5 c =
     let a = c .before .before .before .before .before .before .before .before .before .before .before .before .before .before .before .before .before .before .before .before .before .before .args in
     let g = fields-next (a .text .now) (a .ends .now) (a .count) (c .before .before .before .before .before .before .before .before .before .before .before .before .before .before .before .before .before .before .at-most .ensures .0) (a .from) (c .before .before .before .before .before .before .before .before .before .before .before .before .before .before .before .before .before .if1 .left) (c .before .before .before .before .before .before .before .before .before .before .before .before .before .before .before .before .field .ensures) in
-    let l : length (c .before .before .before .before .before .before .before .before .before .before .before .before .before .before .field-text .last .1 .1 .1 .1 .1 .1 .0) ≡ 1024 = search needs in
-    let f = text-fits (c .before .before .before .before .before .before .before .before .before .before .before .before .before .before .field-text .ensures) (c .before .before .before .before .before .before .before .before .before .before .before .before .n .given .1) in
-    (name-before _ g (text-value (c .before .before .before .before .before .before .before .before .before .before .before .before .before .before .field-text .ensures) (c .before .before .before .before .before .before .before .before .before .before .before .before .n .given .1)) (checked-good _ (c .before .before .before .before .before .before .before .check-name .ensures) (c .before .before .before .before .before .enum-told .given .1)) (then-text _ _ (c .before .before .before .read-text .ensures .0 _) (c .before .m .given .1)), (omega (arith, f, l), length-fits (c .before .before .before .read-text .ensures .1) (c .before .m .given .1)))
+    let n = then-value defineName (text-value (c .before .before .before .before .before .before .before .before .before .before .before .before .before .before .field-text .ensures) (c .before .before .before .before .before .before .before .before .before .before .before .before .n .given .1)) (checked-good _ (c .before .before .before .before .before .before .before .check-name .ensures) (c .before .before .before .before .before .enum-told .given .1)) in
+    let u = c .before .before .before .before .before .before .before .before .before .before .before .before .before .before .field-text in
+    let l : length (u .last .1 .1 .1 .1 .1 .1 .0) ≡ 1024 = search needs in
+    let t = c .before .before .before .read-text .ensures in
+    let m = c .before .m .given .1 in
+    record { reading = named-text _ g n (reading-text _ (t .reading) m); within = (omega (arith, text-fits (u .ensures) (c .before .before .before .before .before .before .before .before .before .before .before .before .n .given .1), l), length-fits (t .within) m) }
 
 pub read-definition-spec : {M : Type 1} → statement M
 read-definition-spec =

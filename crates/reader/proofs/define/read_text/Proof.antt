@@ -4,9 +4,14 @@ use native.Mathlib.Omega.{arith}
 use borrow.Author.Needs.{needs}
 use lib.ListN.{length}
 use lib.Seq.{length-take-le}
+use Rattle.fault.proofs.Readings.{then-fault, then-value, first-missing, first-fault, first-value}
+use Rattle.variables.specs.Define.{defineText}
+use Rattle.variables.specs.Substitute.{fieldAs}
+use Rattle.variables.specs.Contract.{scopeIn}
+use Rattle.variables.proofs.TextLaws.{text-fault, text-value, text-fits}
+use Rattle.reader.specs.Colon.{lastRead}
 use Rattle.reader.proofs.FieldsLaws.{fields-end, fields-next, checked-fault, checked-good}
-use Rattle.variables.proofs.TextLaws.{text-fault as told-fault, text-value, text-fits}
-use Rattle.reader.proofs.DefineLaws.{text-missing, text-fault, text-refused, text-before, text-last}
+use Rattle.reader.proofs.DefineLaws.{text-before, text-last}
 use Rattle.reader.proofs.define.read_text.Statement.{statement}
 use Rattle.reader.proofs.define.read_text.Tie as tie
 
@@ -16,7 +21,8 @@ at-most-requires c κs = search needs
 returns : tie.Need-returns
 returns c =
     let a = c .before .before .before .before .before .args in
-    (λ n. text-missing _ n (fields-end (a .text .now) (a .ends .now) (a .count) (c .before .at-most .ensures .0) (a .from) (c .if1 .taken)), omega arith)
+    let sc = scopeIn (a .user .now) (a .host .now) (a .bytes .now) (a .sizes .now) (a .names) in
+    record { reading = first-missing (fieldAs sc defineText) (lastRead sc) (fields-end (a .text .now) (a .ends .now) (a .count) (c .before .at-most .ensures .0) (a .from) (c .if1 .taken)); within = omega arith }
 
 field-requires : tie.Need-field-requires
 field-requires c κs = search needs
@@ -42,8 +48,10 @@ enum-known-cause-2 c = search needs
 returns-2 : tie.Need-returns-2
 returns-2 c =
     let a = c .before .before .before .before .before .before .before .before .before .before .before .before .before .before .before .before .before .before .args in
+    let sc = scopeIn (a .user .now) (a .host .now) (a .bytes .now) (a .sizes .now) (a .names) in
     let g = fields-next (a .text .now) (a .ends .now) (a .count) (c .before .before .before .before .before .before .before .before .before .before .before .before .before .before .at-most .ensures .0) (a .from) (c .before .before .before .before .before .before .before .before .before .before .before .before .before .if1 .left) (c .before .before .before .before .before .before .before .before .before .before .before .before .field .ensures) in
-    (λ n. text-refused _ n g (text-value (c .before .before .before .before .before .before .before .before .before .before .field-text .ensures) (c .before .before .before .before .before .before .before .before .n .given .1)) (checked-fault _ (c .before .before .before .check-text .ensures) (c .before .cause2 .given .1)), omega arith)
+    let t = then-value defineText (text-value (c .before .before .before .before .before .before .before .before .before .before .field-text .ensures) (c .before .before .before .before .before .before .before .before .n .given .1)) (checked-fault _ (c .before .before .before .check-text .ensures) (c .before .cause2 .given .1)) in
+    record { reading = first-fault (fieldAs sc defineText) (lastRead sc) g t; within = omega arith }
 
 enum-told : tie.Need-enum-told
 enum-told c = search needs
@@ -63,24 +71,30 @@ surplus-requires c κs = search needs
 returns-3 : tie.Need-returns-3
 returns-3 c =
     let a = c .before .before .before .before .before .before .before .before .before .before .before .before .before .before .before .before .before .before .before .before .args in
+    let sc = scopeIn (a .user .now) (a .host .now) (a .bytes .now) (a .sizes .now) (a .names) in
     let g = fields-next (a .text .now) (a .ends .now) (a .count) (c .before .before .before .before .before .before .before .before .before .before .before .before .before .before .before .before .at-most .ensures .0) (a .from) (c .before .before .before .before .before .before .before .before .before .before .before .before .before .before .before .if1 .left) (c .before .before .before .before .before .before .before .before .before .before .before .before .before .before .field .ensures) in
     let h = fields-next (a .text .now) (a .ends .now) (a .count) (c .before .before .before .before .before .before .before .before .before .before .before .before .before .before .before .before .at-most .ensures .0) (a .from + 1) (c .before .before .if2 .taken) (c .before .field2 .ensures) in
-    (λ n. text-before _ n g (text-value (c .before .before .before .before .before .before .before .before .before .before .before .before .field-text .ensures) (c .before .before .before .before .before .before .before .before .before .before .n .given .1)) (checked-good _ (c .before .before .before .before .before .check-text .ensures) (c .before .before .before .enum-told .given .1)) h (c .surplus .ensures), omega arith)
+    let t = then-value defineText (text-value (c .before .before .before .before .before .before .before .before .before .before .before .before .field-text .ensures) (c .before .before .before .before .before .before .before .before .before .before .n .given .1)) (checked-good _ (c .before .before .before .before .before .check-text .ensures) (c .before .before .before .enum-told .given .1)) in
+    record { reading = first-value (fieldAs sc defineText) (lastRead sc) g t (text-before sc _ h (c .surplus .ensures)); within = omega arith }
 
 returns-4 : tie.Need-returns-4
 returns-4 c =
     let a = c .before .before .before .before .before .before .before .before .before .before .before .args in
+    let sc = scopeIn (a .user .now) (a .host .now) (a .bytes .now) (a .sizes .now) (a .names) in
     let g = fields-next (a .text .now) (a .ends .now) (a .count) (c .before .before .before .before .before .before .before .at-most .ensures .0) (a .from) (c .before .before .before .before .before .before .if1 .left) (c .before .before .before .before .before .field .ensures) in
-    (λ n. text-fault _ n g (told-fault (c .before .before .before .field-text .ensures) (c .before .cause .given .1)), omega arith)
+    record { reading = first-fault (fieldAs sc defineText) (lastRead sc) g (then-fault defineText (text-fault (c .before .before .before .field-text .ensures) (c .before .cause .given .1))); within = omega arith }
 
 returns-5 : tie.Need-returns-5
 returns-5 c =
     let a = c .before .before .before .before .before .before .before .before .before .before .before .before .before .before .before .before .before .before .args in
+    let sc = scopeIn (a .user .now) (a .host .now) (a .bytes .now) (a .sizes .now) (a .names) in
     let g = fields-next (a .text .now) (a .ends .now) (a .count) (c .before .before .before .before .before .before .before .before .before .before .before .before .before .before .at-most .ensures .0) (a .from) (c .before .before .before .before .before .before .before .before .before .before .before .before .before .if1 .left) (c .before .before .before .before .before .before .before .before .before .before .before .before .field .ensures) in
     let h = fields-end (a .text .now) (a .ends .now) (a .count) (c .before .before .before .before .before .before .before .before .before .before .before .before .before .before .at-most .ensures .0) (a .from + 1) (c .if2 .left) in
-    let l : length (c .before .before .before .before .before .before .before .before .before .before .field-text .last .1 .1 .1 .1 .1 .1 .0) ≡ 1024 = search needs in
-    let f = text-fits (c .before .before .before .before .before .before .before .before .before .before .field-text .ensures) (c .before .before .before .before .before .before .before .before .n .given .1) in
-    (λ n. text-last _ n g (text-value (c .before .before .before .before .before .before .before .before .before .before .field-text .ensures) (c .before .before .before .before .before .before .before .before .n .given .1)) (checked-good _ (c .before .before .before .check-text .ensures) (c .before .enum-told .given .1)) h, omega (arith, f, l))
+    let u = c .before .before .before .before .before .before .before .before .before .before .field-text in
+    let n = c .before .before .before .before .before .before .before .before .n .given .1 in
+    let t = then-value defineText (text-value (u .ensures) n) (checked-good _ (c .before .before .before .check-text .ensures) (c .before .enum-told .given .1)) in
+    let l : length (u .last .1 .1 .1 .1 .1 .1 .0) ≡ 1024 = search needs in
+    record { reading = first-value (fieldAs sc defineText) (lastRead sc) g t (text-last sc _ h); within = omega (arith, text-fits (u .ensures) n, l) }
 
 pub read-text-spec : {M : Type 1} → statement M
 read-text-spec =

@@ -33,7 +33,10 @@ with-fault-requires : tie.Need-with-fault-requires Inv-loop μ-loop
 with-fault-requires c κs = search needs
 
 returns : tie.Need-returns Inv-loop μ-loop
-returns c = λ ps h. reads-none _ (fieldsIn (c .before .before .before .before .before .before .before .before .args .text .now) (c .before .before .before .before .before .before .before .before .args .ends .now) (c .before .before .before .before .before .before .before .before .args .count)) (c .before .before .before .before .before .before .before .before .args .from) (omega (arith, fields-count (c .before .before .before .before .before .before .before .before .args .text .now) (c .before .before .before .before .before .before .before .before .args .ends .now) (c .before .before .before .before .before .before .before .before .args .count))) (c .with-fault .ensures)
+returns c =
+    let a = c .before .before .before .before .before .before .before .before .args in
+    let k = fields-count (a .text .now) (a .ends .now) (a .count) in
+    record { readsWith = λ ps h. reads-none _ (fieldsIn (a .text .now) (a .ends .now) (a .count)) (a .from) (omega (arith, k)) (c .with-fault .ensures) }
 
 loop-holds : tie.Need-loop-holds Inv-loop μ-loop
 loop-holds c = (search needs, λ ps h. so-far-none h)
@@ -51,7 +54,10 @@ with-fault-requires-2 : tie.Need-with-fault-requires-2 Inv-loop μ-loop
 with-fault-requires-2 c κs = search needs
 
 returns-2 : tie.Need-returns-2 Inv-loop μ-loop
-returns-2 c = λ ps h. reads-bad (c .before .before .before .before .before .before .before .before .loop .inv .1 ps (c .before .before .before .before .before .before .before .before .before .before .new .ensures ps _ h)) (omega (arith, c .before .before .before .before .before .before .before .before .before .before .before .at-most .ensures, fields-count (c .before .before .before .before .before .before .before .before .before .before .before .before .before .before .before .before .args .text .now) (c .before .before .before .before .before .before .before .before .before .before .before .before .before .before .before .before .args .ends .now) (c .before .before .before .before .before .before .before .before .before .before .before .before .before .before .before .before .args .count))) (c .before .before .before .before .before .before .field .ensures) (text-fault (c .before .before .before .before .field-text .ensures) (c .before .before .cause .given .1)) (c .with-fault2 .ensures)
+returns-2 c =
+    let a = c .before .before .before .before .before .before .before .before .before .before .before .before .before .before .before .before .args in
+    let k = fields-count (a .text .now) (a .ends .now) (a .count) in
+    record { readsWith = λ ps h. reads-bad (c .before .before .before .before .before .before .before .before .loop .inv .1 ps (c .before .before .before .before .before .before .before .before .before .before .new .ensures ps _ h)) (omega (arith, c .before .before .before .before .before .before .before .before .before .before .before .at-most .ensures, k)) (c .before .before .before .before .before .before .field .ensures) (text-fault (c .before .before .before .before .field-text .ensures) (c .before .before .cause .given .1)) (c .with-fault2 .ensures) }
 
 enum-known-n : tie.Need-enum-known-n Inv-loop μ-loop
 enum-known-n c = search needs
@@ -69,7 +75,12 @@ enum-told : tie.Need-enum-told Inv-loop μ-loop
 enum-told c = search needs
 
 returns-3 : tie.Need-returns-3 Inv-loop μ-loop
-returns-3 c = λ ps h. let u = c .before .before .before .before .before .before .before .field-text .ensures in let w = c .before .before .before .before .before .before .before .before .before .before .before .loop .inv .1 ps (c .before .before .before .before .before .before .before .before .before .before .before .before .before .new .ensures ps _ h) in reads-stopped w (omega (arith, c .before .before .before .before .before .before .before .before .before .before .before .before .before .before .at-most .ensures, fields-count (c .before .before .before .before .before .before .before .before .before .before .before .before .before .before .before .before .before .before .before .args .text .now) (c .before .before .before .before .before .before .before .before .before .before .before .before .before .before .before .before .before .before .before .args .ends .now) (c .before .before .before .before .before .before .before .before .before .before .before .before .before .before .before .before .before .before .before .args .count))) (c .before .before .before .before .before .before .before .before .before .field .ensures) (text-value u (c .before .before .before .before .before .n .given .1)) (c .before .before .add .ensures ps (w .settings) (text-short u (c .before .before .before .before .before .n .given .1)) (w .sums)) (c .enum-told .given .1)
+returns-3 c =
+    let a = c .before .before .before .before .before .before .before .before .before .before .before .before .before .before .before .before .before .before .before .args in
+    let k = fields-count (a .text .now) (a .ends .now) (a .count) in
+    let u = c .before .before .before .before .before .before .before .field-text .ensures in
+    let n = c .before .before .before .before .before .n .given .1 in
+    record { readsWith = λ ps h. let w = c .before .before .before .before .before .before .before .before .before .before .before .loop .inv .1 ps (c .before .before .before .before .before .before .before .before .before .before .before .before .before .new .ensures ps _ h) in reads-stopped w (omega (arith, c .before .before .before .before .before .before .before .before .before .before .before .before .before .before .at-most .ensures, k)) (c .before .before .before .before .before .before .before .before .before .field .ensures) (text-value u n) (c .before .before .add .ensures .addsTo ps (w .settings) (text-short u n) (w .sums)) (c .enum-told .given .1) }
 
 enum-told-2 : tie.Need-enum-told-2 Inv-loop μ-loop
 enum-told-2 c = search needs
@@ -81,7 +92,12 @@ loop-less : tie.Need-loop-less Inv-loop μ-loop
 loop-less c = omega arith
 
 loop-again : tie.Need-loop-again Inv-loop μ-loop
-loop-again c = let u = c .before .before .before .before .before .before .before .field-text .ensures in (text-kept u ∙ c .before .before .before .before .before .before .before .before .before .before .before .loop .inv .0, λ ps h. let w = c .before .before .before .before .before .before .before .before .before .before .before .loop .inv .1 ps h in so-far-more w (omega (arith, c .before .before .before .before .before .before .before .before .before .before .before .before .before .before .at-most .ensures, fields-count (c .before .before .before .before .before .before .before .before .before .before .before .before .before .before .before .before .before .before .before .args .text .now) (c .before .before .before .before .before .before .before .before .before .before .before .before .before .before .before .before .before .before .before .args .ends .now) (c .before .before .before .before .before .before .before .before .before .before .before .before .before .before .before .before .before .before .before .args .count))) (c .before .before .before .before .before .before .before .before .before .field .ensures) (text-value u (c .before .before .before .before .before .n .given .1)) (c .before .before .add .ensures ps (w .settings) (text-short u (c .before .before .before .before .before .n .given .1)) (w .sums)) (c .enum-told2 .given .1))
+loop-again c =
+    let a = c .before .before .before .before .before .before .before .before .before .before .before .before .before .before .before .before .before .before .before .args in
+    let k = fields-count (a .text .now) (a .ends .now) (a .count) in
+    let u = c .before .before .before .before .before .before .before .field-text .ensures in
+    let n = c .before .before .before .before .before .n .given .1 in
+    (text-kept u ∙ c .before .before .before .before .before .before .before .before .before .before .before .loop .inv .0, λ ps h. let w = c .before .before .before .before .before .before .before .before .before .before .before .loop .inv .1 ps h in so-far-more w (omega (arith, c .before .before .before .before .before .before .before .before .before .before .before .before .before .before .at-most .ensures, k)) (c .before .before .before .before .before .before .before .before .before .field .ensures) (text-value u n) (c .before .before .add .ensures .addsTo ps (w .settings) (text-short u n) (w .sums)) (c .enum-told2 .given .1))
 
 twice-requires : tie.Need-twice-requires Inv-loop μ-loop
 twice-requires c κs = search needs
@@ -90,10 +106,16 @@ with-fault-requires-3 : tie.Need-with-fault-requires-3 Inv-loop μ-loop
 with-fault-requires-3 c κs = search needs
 
 returns-4 : tie.Need-returns-4 Inv-loop μ-loop
-returns-4 c = λ ps h. reads-twice (c .before .before .before .before .before .loop .inv .1 ps (c .before .before .before .before .before .before .before .new .ensures ps _ h)) (omega (arith, fields-count (c .before .before .before .before .before .before .before .before .before .before .before .before .before .args .text .now) (c .before .before .before .before .before .before .before .before .before .before .before .before .before .args .ends .now) (c .before .before .before .before .before .before .before .before .before .before .before .before .before .args .count))) (omega (arith, fields-count (c .before .before .before .before .before .before .before .before .before .before .before .before .before .args .text .now) (c .before .before .before .before .before .before .before .before .before .before .before .before .before .args .ends .now) (c .before .before .before .before .before .before .before .before .before .before .before .before .before .args .count))) (c .before .before .twice .ensures) (c .before .if2 .taken) (c .with-fault3 .ensures)
+returns-4 c =
+    let a = c .before .before .before .before .before .before .before .before .before .before .before .before .before .args in
+    let k = fields-count (a .text .now) (a .ends .now) (a .count) in
+    record { readsWith = λ ps h. reads-twice (c .before .before .before .before .before .loop .inv .1 ps (c .before .before .before .before .before .before .before .new .ensures ps _ h)) (omega (arith, k)) (omega (arith, k)) (c .before .before .twice .ensures) (c .before .if2 .taken) (c .with-fault3 .ensures) }
 
 returns-5 : tie.Need-returns-5 Inv-loop μ-loop
-returns-5 c = λ ps h. reads-all (c .before .before .before .before .loop .inv .1 ps (c .before .before .before .before .before .before .new .ensures ps _ h)) (omega (arith, fields-count (c .before .before .before .before .before .before .before .before .before .before .before .before .args .text .now) (c .before .before .before .before .before .before .before .before .before .before .before .before .args .ends .now) (c .before .before .before .before .before .before .before .before .before .before .before .before .args .count))) (omega (arith, fields-count (c .before .before .before .before .before .before .before .before .before .before .before .before .args .text .now) (c .before .before .before .before .before .before .before .before .before .before .before .before .args .ends .now) (c .before .before .before .before .before .before .before .before .before .before .before .before .args .count))) (c .before .twice .ensures) (c .if2 .left)
+returns-5 c =
+    let a = c .before .before .before .before .before .before .before .before .before .before .before .before .args in
+    let k = fields-count (a .text .now) (a .ends .now) (a .count) in
+    record { readsWith = λ ps h. reads-all (c .before .before .before .before .loop .inv .1 ps (c .before .before .before .before .before .before .new .ensures ps _ h)) (omega (arith, k)) (omega (arith, k)) (c .before .twice .ensures) (c .if2 .left) }
 
 pub read-global-spec : {M : Type 1} → statement M
 read-global-spec =

@@ -1,7 +1,8 @@
 use native.Mathlib.Omega.{arith}
 use borrow.Author.Needs.{needs}
 use Rattle.variables.proofs.TextLaws.{text-kept, text-fault, text-value, text-room, text-length}
-use Rattle.reader.proofs.WordLaws.{then-fault, then-value}
+use Rattle.fault.proofs.Readings.{then-fault, then-value}
+use Rattle.reader.specs.Colon.{wordOf}
 use Rattle.reader.proofs.word.colon_word.Statement.{statement}
 use Rattle.reader.proofs.word.colon_word.Tie as tie
 
@@ -24,10 +25,10 @@ word-in-requires : tie.Need-word-in-requires
 word-in-requires c κs = search needs
 
 returns : tie.Need-returns
-returns c = λ deeper s fs. then-fault _ (text-fault (c .before .before .before .field-text .ensures) (c .before .cause .given .1))
+returns c = then-fault wordOf (text-fault (c .before .before .before .field-text .ensures) (c .before .cause .given .1))
 
 returns-2 : tie.Need-returns-2
-returns-2 c = λ deeper s fs. then-value _ (text-value (c .before .before .before .before .before .field-text .ensures) (c .before .before .before .n .given .1)) (c .word-in .ensures _ deeper s fs)
+returns-2 c = then-value wordOf (text-value (c .before .before .before .before .before .field-text .ensures) (c .before .before .before .n .given .1)) (c .word-in .ensures)
 
 pub colon-word-spec : {M : Type 1} → statement M
 colon-word-spec =

@@ -11,7 +11,7 @@ equal-requires : tie.Need-equal-requires
 equal-requires c κs = search needs
 
 returns : tie.Need-returns
-returns c = λ sc deeper s fs. word-define _ _ _ _ _ (sym (c .before .equal .ensures) ∙ c .if1 .taken)
+returns c = word-define _ (sym (c .before .equal .ensures) ∙ c .if1 .taken)
 
 slice-aggregate-equal-2 : tie.Need-slice-aggregate-equal-2
 slice-aggregate-equal-2 c = search needs
@@ -20,7 +20,7 @@ equal-requires-2 : tie.Need-equal-requires-2
 equal-requires-2 c κs = search needs
 
 returns-2 : tie.Need-returns-2
-returns-2 c = λ sc deeper s fs. word-global _ _ _ _ _ (sym (c .before .before .before .before .equal .ensures) ∙ c .before .before .before .if1 .left) (sym (c .before .equal2 .ensures) ∙ c .if2 .taken)
+returns-2 c = word-global _ (sym (c .before .before .before .before .equal .ensures) ∙ c .before .before .before .if1 .left) (sym (c .before .equal2 .ensures) ∙ c .if2 .taken)
 
 slice-aggregate-equal-3 : tie.Need-slice-aggregate-equal-3
 slice-aggregate-equal-3 c = search needs
@@ -29,7 +29,7 @@ equal-requires-3 : tie.Need-equal-requires-3
 equal-requires-3 c κs = search needs
 
 returns-3 : tie.Need-returns-3
-returns-3 c = λ sc deeper s fs. word-options _ _ _ _ _ (sym (c .before .before .before .before .before .before .before .equal .ensures) ∙ c .before .before .before .before .before .before .if1 .left) (sym (c .before .before .before .before .equal2 .ensures) ∙ c .before .before .before .if2 .left) (sym (c .before .equal3 .ensures) ∙ c .if3 .taken)
+returns-3 c = word-options _ (sym (c .before .before .before .before .before .before .before .equal .ensures) ∙ c .before .before .before .before .before .before .if1 .left) (sym (c .before .before .before .before .equal2 .ensures) ∙ c .before .before .before .if2 .left) (sym (c .before .equal3 .ensures) ∙ c .if3 .taken)
 
 slice-aggregate-equal-4 : tie.Need-slice-aggregate-equal-4
 slice-aggregate-equal-4 c = search needs
@@ -38,10 +38,10 @@ equal-requires-4 : tie.Need-equal-requires-4
 equal-requires-4 c κs = search needs
 
 returns-4 : tie.Need-returns-4
-returns-4 c = λ sc deeper s fs. word-if _ _ _ _ _ (sym (c .before .before .before .before .before .before .before .before .before .before .equal .ensures) ∙ c .before .before .before .before .before .before .before .before .before .if1 .left) (sym (c .before .before .before .before .before .before .before .equal2 .ensures) ∙ c .before .before .before .before .before .before .if2 .left) (sym (c .before .before .before .before .equal3 .ensures) ∙ c .before .before .before .if3 .left) (sym (c .before .equal4 .ensures) ∙ c .if4 .taken)
+returns-4 c = word-if _ (sym (c .before .before .before .before .before .before .before .before .before .before .equal .ensures) ∙ c .before .before .before .before .before .before .before .before .before .if1 .left) (sym (c .before .before .before .before .before .before .before .equal2 .ensures) ∙ c .before .before .before .before .before .before .if2 .left) (sym (c .before .before .before .before .equal3 .ensures) ∙ c .before .before .before .if3 .left) (sym (c .before .equal4 .ensures) ∙ c .if4 .taken)
 
 returns-5 : tie.Need-returns-5
-returns-5 c = λ sc deeper s fs. word-other _ _ _ _ _ (sym (c .before .before .before .before .before .before .before .before .before .before .equal .ensures) ∙ c .before .before .before .before .before .before .before .before .before .if1 .left) (sym (c .before .before .before .before .before .before .before .equal2 .ensures) ∙ c .before .before .before .before .before .before .if2 .left) (sym (c .before .before .before .before .equal3 .ensures) ∙ c .before .before .before .if3 .left) (sym (c .before .equal4 .ensures) ∙ c .if4 .left)
+returns-5 c = word-other _ (sym (c .before .before .before .before .before .before .before .before .before .before .equal .ensures) ∙ c .before .before .before .before .before .before .before .before .before .if1 .left) (sym (c .before .before .before .before .before .before .before .equal2 .ensures) ∙ c .before .before .before .before .before .before .if2 .left) (sym (c .before .before .before .before .equal3 .ensures) ∙ c .before .before .before .if3 .left) (sym (c .before .equal4 .ensures) ∙ c .if4 .left)
 
 pub word-in-spec : {M : Type 1} → statement M
 word-in-spec =

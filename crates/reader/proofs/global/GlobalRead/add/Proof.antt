@@ -35,13 +35,13 @@ add-requires-3 : tie.Need-add-requires-3
 add-requires-3 c κs = search needs
 
 returns : tie.Need-returns
-returns c = λ ps ss l h. adds-as (rw (c .before .enum-told .given .1) at (c .before .before .before .read-option .ensures)) (c .with-fault .ensures)
+returns c = record { addsTo = λ ps ss l h. adds-as (rw (c .before .enum-told .given .1) at (c .before .before .before .read-option .ensures)) (c .with-fault .ensures) }
 
 returns-2 : tie.Need-returns-2
-returns-2 c = λ ps ss l h. adds-as (rw (c .before .before .cause .given .1) at (c .before .before .before .before .read-option .ensures)) (c .with-fault2 .ensures)
+returns-2 c = record { addsTo = λ ps ss l h. adds-as (rw (c .before .before .cause .given .1) at (c .before .before .before .before .read-option .ensures)) (c .with-fault2 .ensures) }
 
 returns-3 : tie.Need-returns-3
-returns-3 c = λ ps ss l h. adds-as (rw (c .before .before .before .before .before .before .before .before .setting .given .1) at (c .before .before .before .before .before .before .before .before .before .before .read-option .ensures)) (refl, sums-more (c .before .before .before .before .before .before .before .before .before .before .before .before .before .args .text .now) (c .before .before .before .before .before .before .before .before .setting .given .0 .0) l (c .before .before .before .value-of .ensures) h (c .before .before .add .ensures) (c .before .add2 .ensures) (c .add3 .ensures))
+returns-3 c = record { addsTo = λ ps ss l h. adds-as (rw (c .before .before .before .before .before .before .before .before .setting .given .1) at (c .before .before .before .before .before .before .before .before .before .before .read-option .ensures)) (refl, sums-more (c .before .before .before .before .before .before .before .before .before .before .before .before .before .args .text .now) (c .before .before .before .before .before .before .before .before .setting .given .0 .0) l (c .before .before .before .value-of .ensures) h (c .before .before .add .ensures) (c .before .add2 .ensures) (c .add3 .ensures)) }
 
 pub add-spec : {M : Type 1} → statement M
 add-spec =

@@ -23,10 +23,10 @@ either-requires : tie.Need-either-requires
 either-requires c κs = search needs
 
 returns : tie.Need-returns
-returns c = λ s k v. global-fault _ _ _ _ _ _ k v (c .before .before .before .read-global .ensures (s .arguments) (k .failures)) (c .before .outcome .given .1) refl
+returns c = record { changesEach = λ s k v. global-fault _ _ _ _ _ _ k v (c .before .before .before .read-global .ensures .readsWith (s .arguments) (k .failures)) (c .before .outcome .given .1) refl }
 
 returns-2 : tie.Need-returns-2
-returns-2 c = λ s k v. global-good _ _ _ _ _ _ k v (c .before .before .before .before .before .before .before .before .before .read-global .ensures (s .arguments) (k .failures)) (c .before .before .before .before .before .before .before .enum-told .given .1) (c .before .before .over .ensures) (c .before .shell .ensures) (c .either .ensures)
+returns-2 c = record { changesEach = λ s k v. global-good _ _ _ _ _ _ k v (c .before .before .before .before .before .before .before .before .before .read-global .ensures .readsWith (s .arguments) (k .failures)) (c .before .before .before .before .before .before .before .enum-told .given .1) (c .before .before .over .ensures) (c .before .shell .ensures) (c .either .ensures) }
 
 pub global-spec : {M : Type 1} → statement M
 global-spec =
