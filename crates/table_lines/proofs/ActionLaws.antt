@@ -15,6 +15,7 @@ use Rattle.question.specs.Contract.{stringsIn}
 use Rattle.question.specs.declared.WeekMinute.{WeekMinute}
 use Rattle.question.specs.declared.LastAuthentication.{LastAuthentication}
 use Rattle.line.specs.Line.{Line}
+use Rattle.line.specs.Fold.{ofLine, atBeginning}
 use Rattle.line.specs.Scan.{scanned}
 use Rattle.line.specs.Kind.{kindOfLine}
 use Rattle.line.specs.Contract.{fieldsIn, Scans}
@@ -34,7 +35,7 @@ use Rattle.entry_line.specs.declared.read.EntryAction.the-variants.{Fault as En
 use Rattle.reader.specs.State.{State, Decision, decidedAt, scopeOf, withEntry}
 use Rattle.reader.specs.Colon.{defineLine, globalLine}
 use Rattle.reader.specs.Read.{judgeFor, fieldsRead, lineRead}
-use Rattle.reader.specs.Contract.{acted}
+use Rattle.reader.specs.Contract.{acted, LineActs}
 use Rattle.reader.specs.declared.control_line.Action.{Action}
 use Rattle.reader.specs.declared.control_line.Action.the-variants.{Fault as ActionFault, Nothing, Define, Global, Entry as EntryAt}
 use Rattle.table_lines.specs.Contract.{AskedWith, isMade, Stands, Decides}
@@ -102,26 +103,26 @@ module _ {q : Question} {command user groups host : List ℕ} {minute : WeekMinu
   empty-nothing z = rw (b, no-bytes line z, scanned-empty)
 
   -- the line itself has a fault
-  pub scan-fault : {c : Cause} → scanned line ≡ fault c → lineRead q s l ≡ fault c
+  pub scan-fault : {c : Cause} → scanned line ≡ fault c → lineRead q s l ≡ fault (ofLine c)
   unfolding lineRead
   scan-fault g = rw (b, g)
 
-  module _ {fs : List (List ℕ)} (g : scanned line ≡ value fs) (x : Action) (a : (p : Question) (n : ℕ) (z : State) → p .user ≡ user → p .host ≡ host → z .definitions ≡ definitionsIn bytes sizes names → z .shell ≡ shell → fieldsRead 4 p n z fs ≡ acted p n z fs x) where
+  module _ {fs : List (List ℕ)} (g : scanned line ≡ value fs) (x : Action) (a : LineActs fs 0 4 shell user host (definitionsIn bytes sizes names) x) where
     -- what the reader of control lines answers is what the line does
-    line-acted : lineRead q s l ≡ acted q (l .number) s fs x
+    line-acted : lineRead q s l ≡ atBeginning (acted q (l .number) s fs x)
     unfolding lineRead
-    line-acted = rw (b, g) (a q (l .number) s (k .itsUser) (k .itsHost) (h .variables) (h .kind))
+    line-acted = rw (b, g) (ap atBeginning (a .acts q (l .number) s (k .itsUser) (k .itsHost) (h .variables) (h .kind)))
 
-    pub action-fault : {c : Cause} → x ≡ ActionFault c → lineRead q s l ≡ fault c
+    pub action-fault : {c : Cause} → x ≡ ActionFault c → lineRead q s l ≡ fault (ofLine c)
     action-fault z = rw z at line-acted
 
     pub action-nothing : x ≡ Nothing → lineRead q s l ≡ value s
     action-nothing z = rw z at line-acted
 
-    pub action-define : {i : ℕ} → x ≡ Define i → lineRead q s l ≡ defineLine (scopeOf q s) s (drop i fs)
+    pub action-define : {i : ℕ} → x ≡ Define i → lineRead q s l ≡ atBeginning (defineLine (scopeOf q s) s (drop i fs))
     action-define z = rw z at line-acted
 
-    pub action-global : {i : ℕ} → x ≡ Global i → lineRead q s l ≡ globalLine (scopeOf q s) s (drop i fs)
+    pub action-global : {i : ℕ} → x ≡ Global i → lineRead q s l ≡ atBeginning (globalLine (scopeOf q s) s (drop i fs))
     action-global z = rw z at line-acted
 
     -- ---- an entry
@@ -138,17 +139,17 @@ module _ {q : Question} {command user groups host : List ℕ} {minute : WeekMinu
       read-is : entryOf (judgeFor q) (scopeOf q s) (drop i fs) ≡ entryRead
       read-is = rw (k .itsUser, k .itsGroups, k .itsHost, k .itsMinute, h .variables)
 
-      entering : lineRead q s l ≡ andThen entryRead (λ e. value (withEntry q (l .number) e s))
-      entering = rw z at line-acted ∙ ap (λ o. andThen o (λ e. value (withEntry q (l .number) e s))) read-is
+      entering : {o : Reading Cause Entry} → entryRead ≡ o → lineRead q s l ≡ atBeginning (andThen o (λ e. value (withEntry q (l .number) e s)))
+      entering o = rw z at line-acted ∙ ap (λ x. atBeginning (andThen x (λ e. value (withEntry q (l .number) e s)))) (read-is ∙ o)
 
       module _ {y : EntryAction} (e : Acts judging command user texts entryRead y) where
-        pub entry-fault : {c : Cause} → y ≡ EntryFault c → lineRead q s l ≡ fault c
-        entry-fault o = entering ∙ rw (acts-fault judging command user texts entryRead (rw o at e))
+        pub entry-fault : {c : Cause} → y ≡ EntryFault c → lineRead q s l ≡ fault (ofLine c)
+        entry-fault o = entering (acts-fault judging command user texts entryRead (rw o at e))
 
         pub entry-passed : y ≡ Passed → lineRead q s l ≡ value s
         entry-passed o =
             let v = acts-passed judging command user texts entryRead (rw o at e) in
-            entering ∙ rw (v .1) (ap value (passed-keeps q (l .number) s (v .0) judging (h .judged) (rw (k .itsCommand, k .itsUser) (v .2))))
+            entering (v .1) ∙ ap value (passed-keeps q (l .number) s (v .0) judging (h .judged) (rw (k .itsCommand, k .itsUser) (v .2)))
 
         pub entry-decides : {index place : ℕ} → y ≡ Accepts index place → Decides q s l fs i index place
         entry-decides {index} {place} o =
@@ -157,7 +158,7 @@ module _ {q : Question} {command user groups host : List ℕ} {minute : WeekMinu
             record {
               entry = v .0;
               read = read-is ∙ v .1;
-              enters = entering ∙ ap (λ o. andThen o (λ x. value (withEntry q (l .number) x s))) (v .1);
+              enters = entering (v .1);
               undecided = none-made (s .decision) (sym (m .0) ∙ h .judged);
               accepts = ap (λ u. conditionsAccept u (v .0)) (k .itsUser) ∙ both-true (given (pathFor command (v .0 .pairs))) (conditionsAccept user (v .0)) (m .1) .1;
               path = ap (λ n. pathFor n (v .0 .pairs)) (k .itsCommand) ∙ v .3 ∙ ap (λ n. some (starred n (drop place (texts index)))) (sym (k .itsCommand)) ∙ ap (λ sc. some (starred (q .command) (drop place (textsIn sc fs index)))) scope-is;

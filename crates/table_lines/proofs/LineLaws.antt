@@ -13,10 +13,10 @@ use Rattle.question.specs.Contract.{stringsIn}
 use Rattle.question.specs.declared.WeekMinute.{WeekMinute}
 use Rattle.question.specs.declared.LastAuthentication.{LastAuthentication}
 use Rattle.line.specs.Line.{backslash}
-use Rattle.line.specs.Fold.{faulty, cut}
+use Rattle.line.specs.Fold.{ofLine, atBeginning, faulty, cut}
 use Rattle.line.specs.Scan.{mostJoined, mostFields}
 use Rattle.line.specs.Contract.{linesFrom, LineEnds, fieldsIn}
-use Rattle.line.proofs.StepLaws.{lineAt, outcomeFrom, from-start, from-end, from-cut, from-fault, from-on}
+use Rattle.line.proofs.StepLaws.{lineAt, outcomeFrom, from-start, from-end, from-cut, from-beginning, from-on}
 use Rattle.variables.specs.Scope.{Scope}
 use Rattle.variables.specs.Contract.{definitionsIn, definitionsOf, scopeIn}
 use Rattle.variables.specs.declared.Variables.{Variables}
@@ -30,7 +30,7 @@ use Rattle.entry_line.specs.declared.decide.Decided.{Decided}
 use Rattle.reader.specs.State.{State, decidedAt, start, scopeOf, withDefinition, withSettings, withEntry}
 use Rattle.reader.specs.Colon.{defineLine, globalLine}
 use Rattle.reader.specs.Read.{judgeFor, lineRead}
-use Rattle.reader.specs.Contract.{Keeps, Changes, scopeFor}
+use Rattle.reader.specs.Contract.{Keeps, Changes, GlobalChanges, scopeFor}
 use Rattle.reader.specs.declared.state.Reader.{Reader}
 use Rattle.reader.specs.declared.state.Changed.{Changed}
 use Rattle.reader.specs.declared.state.LineOutcome.the-variants.{Fault as LineFault, Good as LineGood}
@@ -41,7 +41,7 @@ use Rattle.table_lines.specs.declared.define.Defined.{Defined}
 use Rattle.table_lines.specs.declared.action.LineAction.{LineAction}
 use Rattle.table_lines.specs.declared.action.LineAction.the-variants.{Fault, Nothing, Define, Global, Decide}
 use Rattle.table_lines.specs.Lines.{linesGive}
-use Rattle.table_lines.specs.Contract.{AskedWith, decidedBy, decidedIn, refusedBy, endedBy, isMade, Stands, Decides, Does, LineActs, LineDefined}
+use Rattle.table_lines.specs.Contract.{AskedWith, decidedBy, decidedIn, refusedBy, endedBy, isMade, Stands, DoesIn, LineDoes, LineDefined}
 
 -- ---- what a `:global` comes to
 changed-fault : (args : List (List ℕ)) (o : Reading Cause State) {r : Changed} {c : Cause} → Changes args o r → r .outcome ≡ LineFault c → o ≡ fault c
@@ -87,16 +87,16 @@ module _ {q : Question} {t : List ℕ} {v : Variables} {r : Reader} {d : CodeDec
       go false w = rw w
 
   module _ {e count : ℕ} (l : LineEnds backslash t at e count) where
-    stopped : {c : Cause} → lineRead q (f .state) (lineAt t at e number) ≡ fault c → linesGive q t ≡ fault (faulty c at)
-    stopped g = sym (f .rest) ∙ from-fault backslash (lineRead q) (λ s. s .decision) t at number (f .state) l g
+    stopped : {c : Cause} → lineRead q (f .state) (lineAt t at e number) ≡ fault (ofLine c) → linesGive q t ≡ fault (faulty c at)
+    stopped g = sym (f .rest) ∙ from-beginning backslash (lineRead q) (λ s. s .decision) t at number (f .state) l g
 
     onward : {s : State} {v′ : Variables} {r′ : Reader} {d′ : CodeDecision} {path′ : List ℕ} → lineRead q (f .state) (lineAt t at e number) ≡ value s → s .definitions ≡ definitionsOf v′ → Keeps (q .args) r′ s → decidedIn d′ path′ ≡ s .decision → SoFar q t v′ r′ d′ path′ e (number + count)
     onward {s} g x k m = record { state = s; variables = x; keeps = k; decided = m; rest = sym (from-on backslash (lineRead q) (λ y. y .decision) t at number (f .state) l g) ∙ f .rest }
 
-    module _ {command user groups host : List ℕ} {minute : WeekMinute} {last : LastAuthentication} {args : List ℕ} (k : AskedWith q command user groups host minute last args) {old text former ends : List ℕ} {x : LineAction} (a : LineActs (lineAt t at e number .bytes) old text former ends (r .shell) (not (d .made)) command user groups host minute (v .bytes) (v .sizes) (v .count) x) (room : length old ≡ mostJoined) (places : length former ≡ mostFields) where
+    module _ {command user groups host : List ℕ} {minute : WeekMinute} {last : LastAuthentication} {args : List ℕ} (k : AskedWith q command user groups host minute last args) {old text former ends : List ℕ} {x : LineAction} (a : LineDoes (lineAt t at e number .bytes) old text former ends (r .shell) (not (d .made)) command user groups host minute (v .bytes) (v .sizes) (v .count) x) (room : length old ≡ mostJoined) (places : length former ≡ mostFields) where
       -- what the line does with the state
-      does : {y : LineAction} → x ≡ y → Does q (f .state) (lineAt t at e number) text ends y
-      does z = rw z at (a .acts room places q k (f .state) so-stands (lineAt t at e number) refl)
+      does : {y : LineAction} → x ≡ y → DoesIn q (f .state) (lineAt t at e number) text ends y
+      does z = rw z at (a .does room places q k (f .state) so-stands (lineAt t at e number) refl)
 
       pub turn-fault : {c : Cause} → x ≡ Fault c → linesGive q t ≡ fault (faulty c at)
       turn-fault z = stopped (does z)
@@ -109,8 +109,8 @@ module _ {q : Question} {t : List ℕ} {v : Variables} {r : Reader} {d : CodeDec
 
       -- ---- `:define`
       module _ {n i : ℕ} (z : x ≡ Define n i) {y : Defined} (h : LineDefined v user host (drop i (fieldsIn text ends n)) y) where
-        defining : {o : Reading Cause State} → defineLine (scopeFor user host (f .state)) (f .state) (drop i (fieldsIn text ends n)) ≡ o → lineRead q (f .state) (lineAt t at e number) ≡ o
-        defining o = does z ∙ ap (λ sc. defineLine sc (f .state) (drop i (fieldsIn text ends n))) (sym scope-is) ∙ o
+        defining : {o : Reading Cause State} → defineLine (scopeFor user host (f .state)) (f .state) (drop i (fieldsIn text ends n)) ≡ o → lineRead q (f .state) (lineAt t at e number) ≡ atBeginning o
+        defining o = does z ∙ ap atBeginning (ap (λ sc. defineLine sc (f .state) (drop i (fieldsIn text ends n))) (sym scope-is) ∙ o)
 
         pub turn-define-fault : {c : Cause} → y .outcome ≡ LineFault c → linesGive q t ≡ fault (faulty c at)
         turn-define-fault o = stopped (defining (rw o at (h .defined (f .state) (f .variables))))
@@ -122,19 +122,19 @@ module _ {q : Question} {t : List ℕ} {v : Variables} {r : Reader} {d : CodeDec
             onward (defining (w .1)) (w .2) (record { options = f .keeps .options; failures = f .keeps .failures; shell = f .keeps .shell }) (f .decided)
 
       -- ---- `:global`
-      module _ {n i : ℕ} (z : x ≡ Global n i) {y : Changed} (h : (s : State) → Keeps (stringsIn args) r s → s .definitions ≡ definitionsIn (v .bytes) (v .sizes) (v .count) → Changes (stringsIn args) (globalLine (scopeFor user host s) s (drop i (fieldsIn text ends n))) y) where
+      module _ {n i : ℕ} (z : x ≡ Global n i) {y : Changed} (h : GlobalChanges user host (definitionsOf v) (stringsIn args) (drop i (fieldsIn text ends n)) r y) where
         setting : Changes (q .args) (globalLine (scopeOf q (f .state)) (f .state) (drop i (fieldsIn text ends n))) y
-        setting = rw (k .itsArgs) (rw scope-is at (h (f .state) (rw (k .itsArgs) at (f .keeps)) (f .variables)))
+        setting = rw (k .itsArgs) (rw scope-is at (h .changesEach (f .state) (rw (k .itsArgs) at (f .keeps)) (f .variables)))
 
         pub turn-global-fault : {c : Cause} → y .outcome ≡ LineFault c → linesGive q t ≡ fault (faulty c at)
-        turn-global-fault o = stopped (does z ∙ changed-fault (q .args) _ setting o)
+        turn-global-fault o = stopped (does z ∙ ap atBeginning (changed-fault (q .args) _ setting o))
 
         pub turn-set : y .outcome ≡ LineGood → SoFar q t v (y .reader) d path e (number + count)
         unfolding withSettings
         turn-set o =
             let w = changed-good (q .args) _ setting o in
             let u = global-change (scopeOf q (f .state)) (f .state) (w .0) (drop i (fieldsIn text ends n)) (w .1) in
-            onward (does z ∙ w .1) (sym (ap (λ s. s .definitions) (u .2)) ∙ f .variables) (w .2) (f .decided ∙ ap (λ s. s .decision) (u .2))
+            onward (does z ∙ ap atBeginning (w .1)) (sym (ap (λ s. s .definitions) (u .2)) ∙ f .variables) (w .2) (f .decided ∙ ap (λ s. s .decision) (u .2))
 
       -- ---- an entry that decides
       module _ {n i index place : ℕ} (z : x ≡ Decide n i index place) where

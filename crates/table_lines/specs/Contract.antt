@@ -12,7 +12,7 @@ use Rattle.question.specs.Contract.{stringsIn}
 use Rattle.question.specs.declared.WeekMinute.{WeekMinute}
 use Rattle.question.specs.declared.LastAuthentication.{LastAuthentication}
 use Rattle.line.specs.Line.{Line}
-use Rattle.line.specs.Fold.{Refusal, faulty, cut}
+use Rattle.line.specs.Fold.{ofLine, atBeginning, Refusal, faulty, cut}
 use Rattle.line.specs.Scan.{mostJoined, mostFields}
 use Rattle.line.specs.Contract.{fieldsIn}
 use Rattle.variables.specs.Scope.{Definition, define}
@@ -71,12 +71,12 @@ pub record Decides (q : Question) (s : State) (l : Line) (fs : List (List ℕ)) 
   pub path : pathFor (q .command) (entry .pairs) ≡ some (starred (q .command) (drop place (textsIn (scopeOf q s) fs index)))
 
 -- what a line does with a state, where these buffers hold its fields
-abbrev pub Does : Question → State → Line → (text ends : List ℕ) → LineAction → Type 0
-Does q s l text ends (Fault c) = lineRead q s l ≡ fault c
-Does q s l text ends Nothing = lineRead q s l ≡ value s
-Does q s l text ends (Define n from) = lineRead q s l ≡ defineLine (scopeOf q s) s (drop from (fieldsIn text ends n))
-Does q s l text ends (Global n from) = lineRead q s l ≡ globalLine (scopeOf q s) s (drop from (fieldsIn text ends n))
-Does q s l text ends (Decide n from index place) = Decides q s l (fieldsIn text ends n) from index place
+abbrev pub DoesIn : Question → State → Line → (text ends : List ℕ) → LineAction → Type 0
+DoesIn q s l text ends (Fault c) = lineRead q s l ≡ fault (ofLine c)
+DoesIn q s l text ends Nothing = lineRead q s l ≡ value s
+DoesIn q s l text ends (Define n from) = lineRead q s l ≡ atBeginning (defineLine (scopeOf q s) s (drop from (fieldsIn text ends n)))
+DoesIn q s l text ends (Global n from) = lineRead q s l ≡ atBeginning (globalLine (scopeOf q s) s (drop from (fieldsIn text ends n)))
+DoesIn q s l text ends (Decide n from index place) = Decides q s l (fieldsIn text ends n) from index place
 
 -- whether a line has decided
 abbrev pub isMade : Option Decision → Bool
@@ -90,14 +90,14 @@ pub record Stands (s : State) (bytes sizes : List ℕ) (names : ℕ) (shell judg
   pub judged : judging ≡ not (isMade (s .decision))
 
 -- what a line with these bytes does, whatever its number and place, for whoever asks with these parts; the two buffers are as long as their types say, and stay so
-pub record LineActs (line text text′ ends ends′ : List ℕ) (shell judging : Bool) (command user groups host : List ℕ) (minute : WeekMinute) (bytes sizes : List ℕ) (names : ℕ) (r : LineAction) : Type 0 where
+pub record LineDoes (line text text′ ends ends′ : List ℕ) (shell judging : Bool) (command user groups host : List ℕ) (minute : WeekMinute) (bytes sizes : List ℕ) (names : ℕ) (r : LineAction) : Type 0 where
   pub room : length text′ ≡ length text
   pub places : length ends′ ≡ length ends
-  pub acts : length text ≡ mostJoined → length ends ≡ mostFields
+  pub does : length text ≡ mostJoined → length ends ≡ mostFields
       → (q : Question) {last : LastAuthentication} {args : List ℕ} → AskedWith q command user groups host minute last args
       → (s : State) → Stands s bytes sizes names shell judging
       → (l : Line) → l .bytes ≡ line
-      → Does q s l text′ ends′ r
+      → DoesIn q s l text′ ends′ r
 
 -- what comes of a `:define`, with the variables v behind it
 abbrev pub DefinedIn : State → Variables → Reading Cause State → LineOutcome → Type 0

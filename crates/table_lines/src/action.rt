@@ -10,7 +10,7 @@ use reader::control_line::control_line;
 use reader::state::Reader;
 use variables::Variables;
 use variables::field::FieldText;
-ghost use Rattle.table_lines.specs.Contract.{LineActs};
+ghost use Rattle.table_lines.specs.Contract.{LineDoes};
 
 // What is left to do with a line. Its number of fields and the first one of those that count come first.
 pub enum LineAction {
@@ -40,7 +40,7 @@ pub fn line_action<'a>(
     sizes: &'a [usize; Variables::SIZES],
     names: usize,
 ) -> LineAction
-    ensures { λ r. ⌜ LineActs (now (line .entry)) (now (text .entry)) (now (text .exit)) (now (ends .entry)) (now (ends .exit)) shell judging (now (command .entry)) (now (user .entry)) (now (groups .entry)) (now (host .entry)) minute (now (bytes .entry)) (now (sizes .entry)) names r ⌝ }
+    ensures { λ r. ⌜ LineDoes (now (line .entry)) (now (text .entry)) (now (text .exit)) (now (ends .entry)) (now (ends .exit)) shell judging (now (command .entry)) (now (user .entry)) (now (groups .entry)) (now (host .entry)) minute (now (bytes .entry)) (now (sizes .entry)) names r ⌝ }
 {
     if line.len() == 0 {
         return LineAction::Nothing;

@@ -11,7 +11,7 @@ use Rattle.line.proofs.scan.scan_line.Reads as scan-line-reads
 use Rattle.reader.proofs.control_line.control_line.Reads as control-line-reads
 
 returns : tie.Need-returns
-returns c = record { room = refl; places = refl; acts = λ t d q k s h l b. empty-nothing k h l b (c .if1 .taken) }
+returns c = record { room = refl; places = refl; does = λ t d q k s h l b. empty-nothing k h l b (c .if1 .taken) }
 
 scan-line-requires : tie.Need-scan-line-requires
 scan-line-requires c κs = search needs
@@ -20,7 +20,7 @@ enum-known-cause : tie.Need-enum-known-cause
 enum-known-cause c = search needs
 
 returns-2 : tie.Need-returns-2
-returns-2 c = record { room = scans-length (c .before .before .before .scan-line .ensures); places = ends-kept (c .before .before .before .scan-line .ensures); acts = λ t d q k s h l b. scan-fault k h l b (scans-fault (c .before .before .before .scan-line .ensures) (c .before .cause .given .1)) }
+returns-2 c = record { room = scans-length (c .before .before .before .scan-line .ensures); places = ends-kept (c .before .before .before .scan-line .ensures); does = λ t d q k s h l b. scan-fault k h l b (scans-fault (c .before .before .before .scan-line .ensures) (c .before .cause .given .1)) }
 
 enum-known-n : tie.Need-enum-known-n
 enum-known-n c = search needs
@@ -58,40 +58,40 @@ enum-known-index c = search needs
 returns-3 : tie.Need-returns-3
 returns-3 c =
     let x = c .before .before .before in
-    record { room = scans-length (x .before .before .before .before .before .before .before .scan-line .ensures); places = ends-kept (x .before .before .before .before .before .before .before .scan-line .ensures); acts = λ t d q k s h l b. action-fault k h l b (scanned-fields (x .before .before .before .before .before .before .before .scan-line .ensures) (x .before .before .before .before .before .n .given .1) t d) _ (x .control-line .ensures) (c .before .cause2 .given .1) }
+    record { room = scans-length (x .before .before .before .before .before .before .before .scan-line .ensures); places = ends-kept (x .before .before .before .before .before .before .before .scan-line .ensures); does = λ t d q k s h l b. action-fault k h l b (scanned-fields (x .before .before .before .before .before .before .before .scan-line .ensures) (x .before .before .before .before .before .n .given .1) t d) _ (x .control-line .ensures) (c .before .cause2 .given .1) }
 
 returns-4 : tie.Need-returns-4
 returns-4 c =
     let x = c .before .before in
-    record { room = scans-length (x .before .before .before .before .before .before .before .scan-line .ensures); places = ends-kept (x .before .before .before .before .before .before .before .scan-line .ensures); acts = λ t d q k s h l b. action-nothing k h l b (scanned-fields (x .before .before .before .before .before .before .before .scan-line .ensures) (x .before .before .before .before .before .n .given .1) t d) _ (x .control-line .ensures) (c .enum-told .given .1) }
+    record { room = scans-length (x .before .before .before .before .before .before .before .scan-line .ensures); places = ends-kept (x .before .before .before .before .before .before .before .scan-line .ensures); does = λ t d q k s h l b. action-nothing k h l b (scanned-fields (x .before .before .before .before .before .before .before .scan-line .ensures) (x .before .before .before .before .before .n .given .1) t d) _ (x .control-line .ensures) (c .enum-told .given .1) }
 
 returns-5 : tie.Need-returns-5
 returns-5 c =
     let x = c .before .before .before in
-    record { room = scans-length (x .before .before .before .before .before .before .before .scan-line .ensures); places = ends-kept (x .before .before .before .before .before .before .before .scan-line .ensures); acts = λ t d q k s h l b. action-define k h l b (scanned-fields (x .before .before .before .before .before .before .before .scan-line .ensures) (x .before .before .before .before .before .n .given .1) t d) _ (x .control-line .ensures) (c .before .from .given .1) }
+    record { room = scans-length (x .before .before .before .before .before .before .before .scan-line .ensures); places = ends-kept (x .before .before .before .before .before .before .before .scan-line .ensures); does = λ t d q k s h l b. action-define k h l b (scanned-fields (x .before .before .before .before .before .before .before .scan-line .ensures) (x .before .before .before .before .before .n .given .1) t d) _ (x .control-line .ensures) (c .before .from .given .1) }
 
 returns-6 : tie.Need-returns-6
 returns-6 c =
     let x = c .before .before .before in
-    record { room = scans-length (x .before .before .before .before .before .before .before .scan-line .ensures); places = ends-kept (x .before .before .before .before .before .before .before .scan-line .ensures); acts = λ t d q k s h l b. action-global k h l b (scanned-fields (x .before .before .before .before .before .before .before .scan-line .ensures) (x .before .before .before .before .before .n .given .1) t d) _ (x .control-line .ensures) (c .before .from2 .given .1) }
+    record { room = scans-length (x .before .before .before .before .before .before .before .scan-line .ensures); places = ends-kept (x .before .before .before .before .before .before .before .scan-line .ensures); does = λ t d q k s h l b. action-global k h l b (scanned-fields (x .before .before .before .before .before .before .before .scan-line .ensures) (x .before .before .before .before .before .n .given .1) t d) _ (x .control-line .ensures) (c .before .from2 .given .1) }
 
 returns-7 : tie.Need-returns-7
 returns-7 c =
     let y = c .before .before .before in
     let x = y .before .before .before .before .before .before .before .before in
-    record { room = scans-length (x .before .before .before .before .before .before .before .scan-line .ensures); places = ends-kept (x .before .before .before .before .before .before .before .scan-line .ensures); acts = λ t d q k s h l b. entry-fault k h l b (scanned-fields (x .before .before .before .before .before .before .before .scan-line .ensures) (x .before .before .before .before .before .n .given .1) t d) _ (x .control-line .ensures) (y .before .before .before .before .before .before .from3 .given .1) (y .read-entry .ensures) (c .before .cause3 .given .1) }
+    record { room = scans-length (x .before .before .before .before .before .before .before .scan-line .ensures); places = ends-kept (x .before .before .before .before .before .before .before .scan-line .ensures); does = λ t d q k s h l b. entry-fault k h l b (scanned-fields (x .before .before .before .before .before .before .before .scan-line .ensures) (x .before .before .before .before .before .n .given .1) t d) _ (x .control-line .ensures) (y .before .before .before .before .before .before .from3 .given .1) (y .read-entry .ensures) (c .before .cause3 .given .1) }
 
 returns-8 : tie.Need-returns-8
 returns-8 c =
     let y = c .before .before in
     let x = y .before .before .before .before .before .before .before .before in
-    record { room = scans-length (x .before .before .before .before .before .before .before .scan-line .ensures); places = ends-kept (x .before .before .before .before .before .before .before .scan-line .ensures); acts = λ t d q k s h l b. entry-passed k h l b (scanned-fields (x .before .before .before .before .before .before .before .scan-line .ensures) (x .before .before .before .before .before .n .given .1) t d) _ (x .control-line .ensures) (y .before .before .before .before .before .before .from3 .given .1) (y .read-entry .ensures) (c .enum-told2 .given .1) }
+    record { room = scans-length (x .before .before .before .before .before .before .before .scan-line .ensures); places = ends-kept (x .before .before .before .before .before .before .before .scan-line .ensures); does = λ t d q k s h l b. entry-passed k h l b (scanned-fields (x .before .before .before .before .before .before .before .scan-line .ensures) (x .before .before .before .before .before .n .given .1) t d) _ (x .control-line .ensures) (y .before .before .before .before .before .before .from3 .given .1) (y .read-entry .ensures) (c .enum-told2 .given .1) }
 
 returns-9 : tie.Need-returns-9
 returns-9 c =
     let y = c .before .before .before in
     let x = y .before .before .before .before .before .before .before .before in
-    record { room = scans-length (x .before .before .before .before .before .before .before .scan-line .ensures); places = ends-kept (x .before .before .before .before .before .before .before .scan-line .ensures); acts = λ t d q k s h l b. entry-decides k h l b (scanned-fields (x .before .before .before .before .before .before .before .scan-line .ensures) (x .before .before .before .before .before .n .given .1) t d) _ (x .control-line .ensures) (y .before .before .before .before .before .before .from3 .given .1) (y .read-entry .ensures) (c .before .index .given .1) }
+    record { room = scans-length (x .before .before .before .before .before .before .before .scan-line .ensures); places = ends-kept (x .before .before .before .before .before .before .before .scan-line .ensures); does = λ t d q k s h l b. entry-decides k h l b (scanned-fields (x .before .before .before .before .before .before .before .scan-line .ensures) (x .before .before .before .before .before .n .given .1) t d) _ (x .control-line .ensures) (y .before .before .before .before .before .before .from3 .given .1) (y .read-entry .ensures) (c .before .index .given .1) }
 
 pub line-action-spec : {M : Type 1} → statement M
 line-action-spec =
