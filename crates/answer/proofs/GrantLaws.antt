@@ -19,7 +19,7 @@ use Rattle.options.specs.declared.timeout.Timeout.the-variants.{Unset, Minutes}
 use Rattle.options.specs.declared.span.Span.{Span}
 use Rattle.options.specs.declared.span.Span.the-variants.{Nothing, Between}
 use Rattle.options.specs.declared.ids.IdName.{IdName}
-use Rattle.answer.specs.Meaning.{ended, strings, timeoutTold, countTold, grantedBy}
+use Rattle.answer.specs.Meaning.{ended, timeoutTold, countTold, grantedBy}
 use Rattle.answer.specs.declared.grant.StringEnds.{StringEnds}
 use Rattle.answer.specs.declared.Granted.{Granted}
 use Rattle.answer.specs.Contract.{Puts, PutsAll}

@@ -7,7 +7,6 @@ use text::buffer::Filled;
 use text::buffer::put;
 use text::buffer::put_all;
 ghost use Prim.Native.Nat.{ℕ, _+_, _≤_, _<_};
-ghost use mathlib.Core.Path.{_≡_};
 ghost use mathlib.Core.List.{List};
 ghost use lib.ListN.{length};
 ghost use Rattle.text.specs.Contract.{Wrote};

@@ -7,8 +7,6 @@ use Prim.Native.Nat.{ℕ, _≤_}
 use borrow.Author.Tests.{ltb-false}
 use lib.Dec.{ltb}
 use lib.ListN.{length}
-use Rattle.text.specs.Bytes.{bytes}
-use Rattle.text.specs.Lists.{has}
 use Rattle.text.proofs.Laws.{pick-of}
 use Rattle.fault.specs.Fault.{value}
 use Rattle.fault.proofs.Readings.{gives-all}

@@ -1,5 +1,4 @@
 -- The ids that an option sets have at most 64 bytes. Assumes nothing.
-use mathlib.Core.Path.{_≡_}
 use mathlib.Core.Bool.{Bool, true, false, _&&_}
 use mathlib.Core.List.{List, [], _∷_}
 use mathlib.Core.Option.{Option, none, some, orElse, Option·map}
@@ -28,7 +27,7 @@ use Rattle.variables.specs.Substitute.{fieldText}
 use Rattle.options.specs.declared.Id.{Id}
 use Rattle.options.specs.declared.Id.the-variants.{Uid, Euid, Gid, Egid}
 use Rattle.options.specs.Options.{Options, noIds, noOptions, over, idOr}
-use Rattle.options.specs.Read.{Setting, setId, isId, idOf, authOf, minutesOf, timeoutOf, nargsOf, patternsOf, argumentOf, numberRange, lastPosition, mostNargs, mostMinutes, mostBelow, optionNamed, optionParts, optionOf, optionsOf}
+use Rattle.options.specs.Read.{Setting, setId, isId, idOf, authOf, minutesOf, timeoutOf, argumentOf, numberRange, lastPosition, mostNargs, mostMinutes, mostBelow, optionNamed, optionParts, optionOf, optionsOf}
 use Rattle.reader.specs.Colon.{globalField}
 
 -- ---- a set of options

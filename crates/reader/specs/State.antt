@@ -1,8 +1,8 @@
 -- What is kept from line to line: variables, options and argument patterns in force, whether `patterns=shell` was read, and the decision once made.
 use Prim.Native.Nat.{ℕ}
-use mathlib.Core.Bool.{Bool, true, false, _||_}
-use mathlib.Core.List.{List, [], _∷_, _++_}
-use mathlib.Core.Option.{Option, none, some, orElse, Option·map}
+use mathlib.Core.Bool.{Bool, false, _||_}
+use mathlib.Core.List.{List, [], _++_}
+use mathlib.Core.Option.{Option, none, orElse, Option·map}
 use Rattle.question.specs.Question.{Question}
 use Rattle.variables.specs.Scope.{Scope, Definition, define}
 use Rattle.options.specs.Options.{Options, noOptions, over}

@@ -2,7 +2,7 @@
 use mathlib.Core.Path.{_≡_, refl, sym, ap, _∙_}
 use mathlib.Core.Bool.{Bool, true, false, not}
 use mathlib.Core.List.{List, []}
-use mathlib.Core.Option.{Option, none, some, orElse, Option·map}
+use mathlib.Core.Option.{some, orElse, Option·map}
 use Prim.Native.Nat.{ℕ, _+_, _≤_, _<_}
 use lib.ListN.{length, drop}
 use Rattle.text.proofs.Laws.{clash}
@@ -18,7 +18,7 @@ use Rattle.line.specs.Scan.{mostJoined, mostFields}
 use Rattle.line.specs.Contract.{linesFrom, LineEnds, fieldsIn}
 use Rattle.line.proofs.StepLaws.{lineAt, outcomeFrom, from-start, from-end, from-cut, from-beginning, from-on}
 use Rattle.variables.specs.Scope.{Scope}
-use Rattle.variables.specs.Contract.{definitionsIn, definitionsOf, scopeIn}
+use Rattle.variables.specs.Contract.{definitionsOf, scopeIn}
 use Rattle.variables.specs.declared.Variables.{Variables}
 use Rattle.options.specs.Contract.{optionsIn}
 use Rattle.condition.specs.Condition.{judgeOf}

@@ -46,9 +46,7 @@ pub fn line_action<'a>(
         return LineAction::Nothing;
     }
     let count = match scan_line(line, &mut text[..], ends) {
-        ScannedLine::Fault(cause) => {
-            return LineAction::Fault(cause);
-        }
+        ScannedLine::Fault(cause) => return LineAction::Fault(cause),
         ScannedLine::Good(n) => n,
     };
     match control_line(

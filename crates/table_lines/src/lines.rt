@@ -18,10 +18,7 @@ use reader::state::LineOutcome;
 use reader::state::Reader;
 use variables::Variables;
 use variables::field::FieldText;
-ghost use Prim.Native.Nat.{_≤_};
-ghost use lib.ListN.{length};
 ghost use mathlib.Core.Path.{_≡_};
-ghost use Rattle.line.specs.Line.{tableLimit};
 ghost use Rattle.table_lines.specs.Contract.{ReadsLines, refusedBy};
 
 // The lines end at a faulty one.
@@ -46,7 +43,6 @@ pub fn read_lines(
     args: &[u8],
     path: &mut [u8; Path::BYTES],
 ) -> LinesRead
-    requires { ⌜ length (now table) ≤ tableLimit ⌝ }
     ensures { λ r. ⌜ ReadsLines (now (table .entry)) (now (command .entry)) (now (user .entry)) (now (groups .entry)) (now (host .entry)) minute last (now (args .entry)) (now (path .exit)) r ⌝ }
 {
     let mut variables = Variables::new();
@@ -84,12 +80,8 @@ pub fn read_lines(
             &variables.sizes,
             variables.count,
         ) {
-            LineAction::Fault(cause) => {
-                return refused(cause, begin, decision);
-            }
-            LineAction::Nothing => {
-                continue;
-            }
+            LineAction::Fault(cause) => return refused(cause, begin, decision),
+            LineAction::Nothing => continue,
             LineAction::Define(count, from) => {
                 let defined = define_line(variables, &text, &ends, count, from, user, host);
                 let outcome = defined.outcome;

@@ -1,13 +1,9 @@
-use native.Mathlib.Omega.{arith}
 use borrow.Author.Tests.{not-true, not-false}
 use Rattle.answer.proofs.CallLaws.{asked-with, call-small, call-malformed, call-read, asks-none, asks-some}
 use borrow.Author.Needs.{needs}
 use Rattle.answer.proofs.call.answer.Statement.{statement}
 use Rattle.answer.proofs.call.answer.Tie as tie
 use Rattle.answer.proofs.call.answer.Reads as reads
-use Rattle.answer.proofs.call.answer.Lts as lts
-use Rattle.answer.proofs.table.read_table.Reads as read-table-reads
-use Rattle.question.proofs.form.question_is_good.Reads as question-is-good-reads
 
 returns : tie.Need-returns
 returns c = call-small _ _ _ (c .if1 .taken)

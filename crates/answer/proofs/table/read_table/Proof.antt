@@ -1,15 +1,10 @@
 use borrow.Author.Needs.{needs}
 use mathlib.Core.Path.{refl, sym, ap, _∙_}
-use Rattle.line.proofs.WholeLaws.{accepted-short}
 use Rattle.answer.specs.Meaning.{settled}
 use Rattle.answer.proofs.TableLaws.{table-by}
 use Rattle.answer.proofs.table.read_table.Statement.{statement}
 use Rattle.answer.proofs.table.read_table.Tie as tie
 use Rattle.answer.proofs.table.read_table.Reads as reads
-use Rattle.answer.proofs.table.read_table.Lts as lts
-use Rattle.answer.proofs.table.settle.Reads as settle-reads
-use Rattle.line.proofs.whole.acceptance_of.Reads as acceptance-of-reads
-use Rattle.table_lines.proofs.lines.read_lines.Reads as read-lines-reads
 
 acceptance-of-requires : tie.Need-acceptance-of-requires
 acceptance-of-requires c κs = search needs
@@ -24,7 +19,7 @@ enum-told-2 : tie.Need-enum-told-2
 enum-told-2 c = search needs
 
 read-lines-requires : tie.Need-read-lines-requires
-read-lines-requires c κs = accepted-short (c .before .before .before .before .before .before .before .before .before .before .before .args .table .now) (sym (c .before .before .before .acceptance-of .ensures) ∙ c .before .enum-told2 .given .1)
+read-lines-requires c κs = search needs
 
 settle-requires : tie.Need-settle-requires
 settle-requires c κs = search needs

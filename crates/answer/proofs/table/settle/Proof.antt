@@ -2,9 +2,6 @@ use borrow.Author.Needs.{needs}
 use Rattle.answer.proofs.TableLaws.{settle-refused, settle-cut, settle-done}
 use Rattle.answer.proofs.table.settle.Statement.{statement}
 use Rattle.answer.proofs.table.settle.Tie as tie
-use Rattle.answer.proofs.table.settle.Reads as reads
-use Rattle.answer.proofs.table.settle.Lts as lts
-use Rattle.answer.proofs.table.resolve.Reads as resolve-reads
 
 enum-known-outcome : tie.Need-enum-known-outcome
 enum-known-outcome c = search needs

@@ -3,9 +3,6 @@ use mathlib.Core.Path.{sym, _∙_}
 use borrow.Author.Needs.{needs}
 use Rattle.condition.proofs.prefix.prefix_of.Statement.{statement}
 use Rattle.condition.proofs.prefix.prefix_of.Tie as tie
-use Rattle.condition.proofs.prefix.prefix_of.Reads as reads
-use Rattle.condition.proofs.prefix.prefix_of.Lts as lts
-use Rattle.text.proofs.slice.starts_with.Reads as starts-with-reads
 
 slice-aggregate-starts-with : tie.Need-slice-aggregate-starts-with
 slice-aggregate-starts-with c = search needs

@@ -7,10 +7,6 @@ use Rattle.variables.specs.Contract.{verbatim}
 use borrow.Author.Needs.{needs}
 use Rattle.entry_line.proofs.read.is_plain.Statement.{statement}
 use Rattle.entry_line.proofs.read.is_plain.Tie as tie
-use Rattle.entry_line.proofs.read.is_plain.Reads as reads
-use Rattle.entry_line.proofs.read.is_plain.Lts as lts
-use Rattle.text.proofs.number.at_most.Reads as at-most-reads
-use Rattle.variables.proofs.field.is_verbatim.Reads as is-verbatim-reads
 
 -- src/read.rt:54:25
 at-most-requires : tie.Need-at-most-requires

@@ -9,15 +9,6 @@ use Rattle.condition.specs.Condition.{judgeOf}
 use Rattle.entry_line.proofs.ReadLaws.{field-there, fields-past, field-verbatim, ReadUpTo, read-none, read-fault, read-on, read-end}
 use Rattle.entry_line.proofs.read.read_fields.Statement.{statement}
 use Rattle.entry_line.proofs.read.read_fields.Tie as tie
-use Rattle.entry_line.proofs.read.read_fields.Reads as reads
-use Rattle.entry_line.proofs.read.read_fields.Lts as lts
-use Rattle.entry.proofs.entry.Entry.finish.Reads as finish-reads
-use Rattle.entry.proofs.entry.Entry.new.Reads as new-reads
-use Rattle.entry_line.proofs.read.add_field.Reads as add-field-reads
-use Rattle.entry_line.proofs.read.is_plain.Reads as is-plain-reads
-use Rattle.line.proofs.fields.field.Reads as field-reads
-use Rattle.line.proofs.fields.start_of.Reads as start-of-reads
-use Rattle.text.proofs.number.at_most.Reads as at-most-reads
 
 abbrev Inv-loop : tie.InvT-loop
 Inv-loop text ends count from judging command user groups host minute bytes sizes names scratch₀ most reach plain entry₀ i₀ scratch entry i = ReadUpTo (judgeOf user (stringsIn groups) host (minute .0)) (scopeIn user host bytes sizes names) judging command (fieldsIn text ends count) from entry i

@@ -2,9 +2,6 @@ use mathlib.Core.Path.{sym}
 use borrow.Author.Needs.{needs}
 use Rattle.entry_line.proofs.read.stays.Statement.{statement}
 use Rattle.entry_line.proofs.read.stays.Tie as tie
-use Rattle.entry_line.proofs.read.stays.Reads as reads
-use Rattle.entry_line.proofs.read.stays.Lts as lts
-use Rattle.variables.proofs.field.is_verbatim.Reads as is-verbatim-reads
 
 -- src/read.rt:63:9
 returns : tie.Need-returns

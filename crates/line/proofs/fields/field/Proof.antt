@@ -4,10 +4,6 @@ use Rattle.line.proofs.AccessLaws.{field-past, field-here, start-within
 use borrow.Author.Needs.{needs}
 use Rattle.line.proofs.fields.field.Statement.{statement}
 use Rattle.line.proofs.fields.field.Tie as tie
-use Rattle.line.proofs.fields.field.Reads as reads
-use Rattle.line.proofs.fields.field.Lts as lts
-use Rattle.line.proofs.fields.start_of.Reads as start-of-reads
-use Rattle.text.proofs.number.at_most.Reads as at-most-reads
 
 at-most-requires : tie.Need-at-most-requires
 at-most-requires c κs = search needs

@@ -3,9 +3,6 @@ use Rattle.text.proofs.Leads.{reach-stop, reach-none}
 use borrow.Author.Needs.{needs}
 use Rattle.line.proofs.find.next_byte.Statement.{statement}
 use Rattle.line.proofs.find.next_byte.Tie as tie
-use Rattle.line.proofs.find.next_byte.Reads as reads
-use Rattle.line.proofs.find.next_byte.Lts as lts
-use Rattle.text.proofs.slice.byte_from.Reads as byte-from-reads
 
 -- src/find.rt:12:12
 shared-slice-read-if2 : tie.Need-shared-slice-read-if2

@@ -2,9 +2,6 @@ use Rattle.line.specs.Joined.{partsFields, joinBlank}
 use borrow.Author.Needs.{needs}
 use Rattle.line.proofs.mode.join_gives.Statement.{statement}
 use Rattle.line.proofs.mode.join_gives.Tie as tie
-use Rattle.line.proofs.mode.join_gives.Reads as reads
-use Rattle.line.proofs.mode.join_gives.Lts as lts
-use Rattle.text.proofs.class.is_word_byte.Reads as is-word-byte-reads
 
 enum-told : tie.Need-enum-told
 enum-told c = search needs

@@ -2,10 +2,6 @@ use Rattle.line.specs.Joined.{modeAfter}
 use borrow.Author.Needs.{needs}
 use Rattle.line.proofs.mode.mode_after.Statement.{statement}
 use Rattle.line.proofs.mode.mode_after.Tie as tie
-use Rattle.line.proofs.mode.mode_after.Reads as reads
-use Rattle.line.proofs.mode.mode_after.Lts as lts
-use Rattle.line.proofs.mode.is_unquoted.Reads as is-unquoted-reads
-use Rattle.text.proofs.quote.quoting_after.Reads as quoting-after-reads
 
 enum-known-mode : tie.Need-enum-known-mode
 enum-known-mode c = search needs

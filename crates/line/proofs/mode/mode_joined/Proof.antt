@@ -2,8 +2,6 @@ use Rattle.line.specs.Joined.{modeJoined}
 use borrow.Author.Needs.{needs}
 use Rattle.line.proofs.mode.mode_joined.Statement.{statement}
 use Rattle.line.proofs.mode.mode_joined.Tie as tie
-use Rattle.line.proofs.mode.mode_joined.Reads as reads
-use Rattle.line.proofs.mode.mode_joined.Lts as lts
 
 enum-known-mode : tie.Need-enum-known-mode
 enum-known-mode c = search needs

@@ -2,10 +2,6 @@ use Rattle.line.specs.Joined.{partsFields}
 use borrow.Author.Needs.{needs}
 use Rattle.line.proofs.mode.parts_fields.Statement.{statement}
 use Rattle.line.proofs.mode.parts_fields.Tie as tie
-use Rattle.line.proofs.mode.parts_fields.Reads as reads
-use Rattle.line.proofs.mode.parts_fields.Lts as lts
-use Rattle.line.proofs.mode.is_unquoted.Reads as is-unquoted-reads
-use Rattle.text.proofs.class.is_blank.Reads as is-blank-reads
 
 enum-known-mode : tie.Need-enum-known-mode
 enum-known-mode c = search needs

@@ -2,9 +2,6 @@ use Rattle.line.specs.Contract.{inRun}
 use borrow.Author.Needs.{needs}
 use Rattle.line.proofs.run.is_in.Statement.{statement}
 use Rattle.line.proofs.run.is_in.Tie as tie
-use Rattle.line.proofs.run.is_in.Reads as reads
-use Rattle.line.proofs.run.is_in.Lts as lts
-use Rattle.text.proofs.class.is_blank.Reads as is-blank-reads
 
 -- src/run.rt:19:24
 enum-told : tie.Need-enum-told

@@ -9,9 +9,6 @@ use mathlib.Core.Path.{_≡_, refl, sym, _∙_}
 use Prim.Native.Nat.{_+_, _-_, _≤_}
 use Rattle.line.proofs.run.run_end.Statement.{statement}
 use Rattle.line.proofs.run.run_end.Tie as tie
-use Rattle.line.proofs.run.run_end.Reads as reads
-use Rattle.line.proofs.run.run_end.Lts as lts
-use Rattle.line.proofs.run.is_in.Reads as is-in-reads
 
 abbrev Inv-loop : tie.InvT-loop
 Inv-loop line from run i₀ i = (i ≤ length line) × (from ≤ i) × (i + leading (inRun run) (drop i line) ≡ from + leading (inRun run) (drop from line))

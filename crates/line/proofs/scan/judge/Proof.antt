@@ -2,8 +2,6 @@ use Rattle.line.specs.Scan.{checked}
 use borrow.Author.Tests.{le-leb, lt-leb, not-true, not-false}
 use Rattle.line.proofs.scan.judge.Statement.{statement}
 use Rattle.line.proofs.scan.judge.Tie as tie
-use Rattle.line.proofs.scan.judge.Reads as reads
-use Rattle.line.proofs.scan.judge.Lts as lts
 
 returns : tie.Need-returns
 unfolding checked

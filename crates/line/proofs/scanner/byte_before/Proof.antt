@@ -2,8 +2,6 @@ use Rattle.line.proofs.JoinedLaws.{before-some, before-none}
 use borrow.Author.Needs.{needs}
 use Rattle.line.proofs.scanner.byte_before.Statement.{statement}
 use Rattle.line.proofs.scanner.byte_before.Tie as tie
-use Rattle.line.proofs.scanner.byte_before.Reads as reads
-use Rattle.line.proofs.scanner.byte_before.Lts as lts
 
 sub-result : tie.Need-sub-result
 sub-result c = search needs

@@ -2,8 +2,6 @@ use Rattle.line.proofs.JoinedLaws.{joins-not, joins-by, joins-end}
 use borrow.Author.Needs.{needs}
 use Rattle.line.proofs.scanner.joins_at.Statement.{statement}
 use Rattle.line.proofs.scanner.joins_at.Tie as tie
-use Rattle.line.proofs.scanner.joins_at.Reads as reads
-use Rattle.line.proofs.scanner.joins_at.Lts as lts
 
 shared-slice-read-if1 : tie.Need-shared-slice-read-if1
 shared-slice-read-if1 c = search needs

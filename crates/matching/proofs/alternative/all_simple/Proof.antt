@@ -8,9 +8,6 @@ use Rattle.matching.proofs.AlternativeLaws.{simple-on, simple-end}
 use Rattle.text.proofs.Laws.{clash}
 use Rattle.matching.proofs.alternative.all_simple.Statement.{statement}
 use Rattle.matching.proofs.alternative.all_simple.Tie as tie
-use Rattle.matching.proofs.alternative.all_simple.Reads as reads
-use Rattle.matching.proofs.alternative.all_simple.Lts as lts
-use Rattle.matching.proofs.alternative.is_simple.Reads as is-simple-reads
 
 abbrev Inv-loop : tie.InvT-loop
 Inv-loop a i₀ i = (i ≤ length a) × (SimpleName (drop i a) → SimpleName a)

@@ -1,8 +1,6 @@
 use Rattle.matching.proofs.AlternativeLaws.{simple-high, simple-middle, simple-low}
 use Rattle.matching.proofs.alternative.is_simple.Statement.{statement}
 use Rattle.matching.proofs.alternative.is_simple.Tie as tie
-use Rattle.matching.proofs.alternative.is_simple.Reads as reads
-use Rattle.matching.proofs.alternative.is_simple.Lts as lts
 
 -- src/alternative.rt:104:9
 returns : tie.Need-returns

@@ -4,11 +4,6 @@ use Rattle.matching.proofs.AlternativeLaws.{simple-good, simple-bad}
 use borrow.Author.Needs.{needs}
 use Rattle.matching.proofs.alternative.part.Statement.{statement}
 use Rattle.matching.proofs.alternative.part.Tie as tie
-use Rattle.matching.proofs.alternative.part.Reads as reads
-use Rattle.matching.proofs.alternative.part.Lts as lts
-use Rattle.matching.proofs.alternative.all_simple.Reads as all-simple-reads
-use Rattle.matching.proofs.alternative.good_part.Reads as good-part-reads
-use Rattle.matching.proofs.alternative.part_in_context.Reads as part-in-context-reads
 
 -- src/alternative.rt:157:9
 all-simple-requires : tie.Need-all-simple-requires

@@ -4,11 +4,6 @@ use Rattle.line.proofs.ScanLaws.{scans-length, scans-fault}
 use Rattle.table_lines.proofs.ActionLaws.{ends-kept, scanned-fields, empty-nothing, scan-fault, action-fault, action-nothing, action-define, action-global, entry-fault, entry-passed, entry-decides}
 use Rattle.table_lines.proofs.action.line_action.Statement.{statement}
 use Rattle.table_lines.proofs.action.line_action.Tie as tie
-use Rattle.table_lines.proofs.action.line_action.Reads as reads
-use Rattle.table_lines.proofs.action.line_action.Lts as lts
-use Rattle.entry_line.proofs.read.read_entry.Reads as read-entry-reads
-use Rattle.line.proofs.scan.scan_line.Reads as scan-line-reads
-use Rattle.reader.proofs.control_line.control_line.Reads as control-line-reads
 
 returns : tie.Need-returns
 returns c = record { room = refl; places = refl; does = λ t d q k s h l b. empty-nothing k h l b (c .if1 .taken) }

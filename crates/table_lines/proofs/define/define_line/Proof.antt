@@ -6,10 +6,6 @@ use Rattle.variables.proofs.StoreLaws.{stored-there}
 use Rattle.table_lines.proofs.DefineLaws.{place-within, define-fault, define-stored}
 use Rattle.table_lines.proofs.define.define_line.Statement.{statement}
 use Rattle.table_lines.proofs.define.define_line.Tie as tie
-use Rattle.table_lines.proofs.define.define_line.Reads as reads
-use Rattle.table_lines.proofs.define.define_line.Lts as lts
-use Rattle.reader.proofs.define.read_define.Reads as read-define-reads
-use Rattle.variables.proofs.Variables.define.Reads as define-reads
 
 read-define-requires : tie.Need-read-define-requires
 read-define-requires c κs = search needs

@@ -9,18 +9,6 @@ use Rattle.table_lines.specs.Contract.{AskedWith}
 use Rattle.table_lines.proofs.LineLaws.{SoFar, so-start, so-end, so-cut, refused-gives, turn-fault, turn-nothing, turn-define-fault, turn-defined, turn-global-fault, turn-set, turn-decided}
 use Rattle.table_lines.proofs.lines.read_lines.Statement.{statement}
 use Rattle.table_lines.proofs.lines.read_lines.Tie as tie
-use Rattle.table_lines.proofs.lines.read_lines.Reads as reads
-use Rattle.table_lines.proofs.lines.read_lines.Lts as lts
-use Rattle.entry_line.proofs.decide.decide.Reads as decide-reads
-use Rattle.line.proofs.ends.control_end.Reads as control-end-reads
-use Rattle.reader.proofs.state.Reader.global.Reads as global-reads
-use Rattle.reader.proofs.state.Reader.new.Reads as state-Reader-new-reads
-use Rattle.table_lines.proofs.Decision.made.Reads as made-reads
-use Rattle.table_lines.proofs.Decision.none.Reads as none-reads
-use Rattle.table_lines.proofs.action.line_action.Reads as line-action-reads
-use Rattle.table_lines.proofs.define.define_line.Reads as define-line-reads
-use Rattle.table_lines.proofs.lines.refused.Reads as refused-reads
-use Rattle.variables.proofs.Variables.new.Reads as Variables-new-reads
 
 abbrev Inv-loop : tie.InvT-loop
 Inv-loop table command user groups host minute last args path₀ variables₀ reader₀ decision₀ scratch₀ text₀ ends₀ at₀ number₀ path variables reader decision scratch text ends at number =
@@ -55,7 +43,7 @@ returns : tie.Need-returns Inv-loop μ-loop
 returns c = record { gives = λ q a. so-cut (c .before .before .before .before .loop .inv .4 q a) (c .before .before .before .loop-test .taken) (rw (c .enum-told .given .1) at (c .before .before .control-end .ensures)) }
 
 add-number : tie.Need-add-number Inv-loop μ-loop
-add-number c = let w = rw (c .before .end .given .1) at (c .before .before .before .control-end .ensures) in omega (arith, w .few, w .high, c .before .before .before .before .before .loop .inv .0, c .before .before .before .before .before .loop .inv .1, c .before .before .before .before .before .before .before .before .before .before .before .before .before .before .before .pre)
+add-number c = let w = rw (c .before .end .given .1) at (c .before .before .before .control-end .ensures) in omega (arith, w .few, w .high, c .before .before .before .before .before .loop .inv .0, c .before .before .before .before .before .loop .inv .1, c .before .before .before .before .before .before .before .before .before .before .before .before .before .before .before .good)
 
 sub-line-action : tie.Need-sub-line-action Inv-loop μ-loop
 sub-line-action c = let w = rw (c .before .end .given .1) at (c .before .before .before .control-end .ensures) in omega (arith, w .low, w .high)

@@ -9,9 +9,6 @@ use Rattle.text.specs.declared.buffer.Filled.the-variants.{Done}
 use Rattle.text.proofs.Buffers.{done-up, full-up, laid-next, laid-end, laid-past}
 use Rattle.text.proofs.buffer.put_all.Statement.{statement}
 use Rattle.text.proofs.buffer.put_all.Tie as tie
-use Rattle.text.proofs.buffer.put_all.Reads as reads
-use Rattle.text.proofs.buffer.put_all.Lts as lts
-use Rattle.text.proofs.number.at_most.Reads as at-most-reads
 
 abbrev Inv-loop : tie.InvT-loop
 Inv-loop out₀ n s m i₀ out i = (i ≤ m) × (m ≤ length s) × (n + m ≤ length out₀) × (length out ≡ length out₀) × (laid out (n + i) (drop i s) ≡ laid out₀ n s)

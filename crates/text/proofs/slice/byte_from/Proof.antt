@@ -7,9 +7,6 @@ use Rattle.text.proofs.Leads.{lead-on, lead-hit, lead-end}
 use Rattle.text.specs.Contract.{lead}
 use Rattle.text.proofs.slice.byte_from.Statement.{statement}
 use Rattle.text.proofs.slice.byte_from.Tie as tie
-use Rattle.text.proofs.slice.byte_from.Reads as reads
-use Rattle.text.proofs.slice.byte_from.Lts as lts
-use Rattle.text.proofs.slice.past_blocks.Reads as past-blocks-reads
 
 abbrev Inv-loop : tie.InvT-loop
 Inv-loop s from c i₀ i = (from ≤ i) × (from ≤ length s → i ≤ length s) × (i + lead c (drop i s) ≡ from + lead c (drop from s))

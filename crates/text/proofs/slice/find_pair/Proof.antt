@@ -7,9 +7,6 @@ use Rattle.text.specs.Slice.{findPair}
 use Rattle.text.proofs.Slices.{pair-none, pair-here, pair-later, pair-end}
 use Rattle.text.proofs.slice.find_pair.Statement.{statement}
 use Rattle.text.proofs.slice.find_pair.Tie as tie
-use Rattle.text.proofs.slice.find_pair.Reads as reads
-use Rattle.text.proofs.slice.find_pair.Lts as lts
-use Rattle.text.proofs.slice.byte_from.Reads as byte-from-reads
 
 abbrev Inv-loop : tie.InvT-loop
 Inv-loop s c d i₀ i = (i ≤ length s) × (findPair c d i (drop i s) ≡ findPair c d 0 s)

@@ -7,8 +7,6 @@ use Prim.Native.Nat.{_-_, _≤_}
 use lib.ListN.{length, drop}
 use Rattle.text.proofs.slice.is_among.Statement.{statement}
 use Rattle.text.proofs.slice.is_among.Tie as tie
-use Rattle.text.proofs.slice.is_among.Reads as reads
-use Rattle.text.proofs.slice.is_among.Lts as lts
 
 abbrev Inv-loop : tie.InvT-loop
 Inv-loop s c found₀ i₀ found i = (i ≤ length s) × ((found || has c (drop i s)) ≡ has c s)

@@ -7,9 +7,6 @@ use Prim.Native.Nat.{_+_, _-_, _≤_}
 use lib.ListN.{length, drop}
 use Rattle.text.proofs.slice.past_blocks.Statement.{statement}
 use Rattle.text.proofs.slice.past_blocks.Tie as tie
-use Rattle.text.proofs.slice.past_blocks.Reads as reads
-use Rattle.text.proofs.slice.past_blocks.Lts as lts
-use Rattle.text.proofs.slice.is_among.Reads as is-among-reads
 
 abbrev Inv-loop : tie.InvT-loop
 Inv-loop s from c i₀ i = (i + lead c (drop i s) ≡ from + lead c (drop from s)) × (from ≤ i) × (from ≤ length s → i ≤ length s)

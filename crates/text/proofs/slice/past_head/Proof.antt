@@ -4,9 +4,6 @@ use Rattle.text.proofs.Slices.{head-is}
 use borrow.Author.Needs.{needs}
 use Rattle.text.proofs.slice.past_head.Statement.{statement}
 use Rattle.text.proofs.slice.past_head.Tie as tie
-use Rattle.text.proofs.slice.past_head.Reads as reads
-use Rattle.text.proofs.slice.past_head.Lts as lts
-use Rattle.text.proofs.slice.head_is.Reads as head-is-reads
 
 -- src/slice.rt:62:8
 head-is-requires : tie.Need-head-is-requires

@@ -2,9 +2,6 @@ use Rattle.condition.specs.Contract.{added}
 use borrow.Author.Needs.{needs}
 use Rattle.condition.proofs.rightmost.Rightmost.add.Statement.{statement}
 use Rattle.condition.proofs.rightmost.Rightmost.add.Tie as tie
-use Rattle.condition.proofs.rightmost.Rightmost.add.Reads as reads
-use Rattle.condition.proofs.rightmost.Rightmost.add.Lts as lts
-use Rattle.condition.proofs.rightmost.and.Reads as and-reads
 
 and-requires : tie.Need-and-requires
 and-requires c κs = search needs

@@ -2,10 +2,6 @@ use Rattle.line.specs.Contract.{absorbedAll}
 use borrow.Author.Needs.{needs}
 use Rattle.line.proofs.counts.Counts.add_join.Statement.{statement}
 use Rattle.line.proofs.counts.Counts.add_join.Tie as tie
-use Rattle.line.proofs.counts.Counts.add_join.Reads as reads
-use Rattle.line.proofs.counts.Counts.add_join.Lts as lts
-use Rattle.line.proofs.counts.Counts.add.Reads as add-reads
-use Rattle.line.proofs.mode.join_gives.Reads as join-gives-reads
 
 join-gives-requires : tie.Need-join-gives-requires
 join-gives-requires c κs = search needs

@@ -3,9 +3,6 @@ use Rattle.text.specs.Buffer.{laid}
 use borrow.Author.Needs.{needs}
 use Rattle.line.proofs.counts.Counts.keep.Statement.{statement}
 use Rattle.line.proofs.counts.Counts.keep.Tie as tie
-use Rattle.line.proofs.counts.Counts.keep.Reads as reads
-use Rattle.line.proofs.counts.Counts.keep.Lts as lts
-use Rattle.text.proofs.buffer.put.Reads as put-reads
 
 put-requires : tie.Need-put-requires
 put-requires c κs = search needs

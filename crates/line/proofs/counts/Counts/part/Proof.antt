@@ -6,9 +6,6 @@ use mathlib.Core.Path.{ap, _∙_}
 use borrow.Author.Needs.{needs}
 use Rattle.line.proofs.counts.Counts.part.Statement.{statement}
 use Rattle.line.proofs.counts.Counts.part.Tie as tie
-use Rattle.line.proofs.counts.Counts.part.Reads as reads
-use Rattle.line.proofs.counts.Counts.part.Lts as lts
-use Rattle.line.proofs.counts.Counts.close.Reads as close-reads
 
 close-requires : tie.Need-close-requires
 close-requires c κs = search needs

@@ -6,10 +6,6 @@ use Rattle.line.proofs.ScannerLaws.{outside}
 use borrow.Author.Needs.{needs}
 use Rattle.line.proofs.scanner.Scanner.is_between.Statement.{statement}
 use Rattle.line.proofs.scanner.Scanner.is_between.Tie as tie
-use Rattle.line.proofs.scanner.Scanner.is_between.Reads as reads
-use Rattle.line.proofs.scanner.Scanner.is_between.Lts as lts
-use Rattle.line.proofs.mode.is_unquoted.Reads as is-unquoted-reads
-use Rattle.text.proofs.class.is_blank.Reads as is-blank-reads
 
 -- src/scanner.rt:125:30
 enum-known-mode : tie.Need-enum-known-mode

@@ -9,10 +9,6 @@ use Rattle.line.proofs.ScannerLaws.{goes-blanks}
 use borrow.Author.Needs.{needs}
 use Rattle.line.proofs.scanner.Scanner.past_blanks.Statement.{statement}
 use Rattle.line.proofs.scanner.Scanner.past_blanks.Tie as tie
-use Rattle.line.proofs.scanner.Scanner.past_blanks.Reads as reads
-use Rattle.line.proofs.scanner.Scanner.past_blanks.Lts as lts
-use Rattle.line.proofs.counts.Counts.part.Reads as part-reads
-use Rattle.line.proofs.run.run_end.Reads as run-end-reads
 
 -- src/scanner.rt:142:13
 run-end-requires : tie.Need-run-end-requires

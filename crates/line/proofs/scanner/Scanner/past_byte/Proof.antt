@@ -3,10 +3,6 @@ use native.Mathlib.Omega.{arith}
 use borrow.Author.Needs.{needs}
 use Rattle.line.proofs.scanner.Scanner.past_byte.Statement.{statement}
 use Rattle.line.proofs.scanner.Scanner.past_byte.Tie as tie
-use Rattle.line.proofs.scanner.Scanner.past_byte.Reads as reads
-use Rattle.line.proofs.scanner.Scanner.past_byte.Lts as lts
-use Rattle.line.proofs.counts.Counts.add.Reads as add-reads
-use Rattle.line.proofs.mode.mode_after.Reads as mode-after-reads
 
 shared-slice-read-b : tie.Need-shared-slice-read-b
 shared-slice-read-b c = search needs

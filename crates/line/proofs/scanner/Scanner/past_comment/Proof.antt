@@ -3,10 +3,6 @@ use Rattle.line.proofs.ScannerLaws.{goes-comment}
 use borrow.Author.Needs.{needs}
 use Rattle.line.proofs.scanner.Scanner.past_comment.Statement.{statement}
 use Rattle.line.proofs.scanner.Scanner.past_comment.Tie as tie
-use Rattle.line.proofs.scanner.Scanner.past_comment.Reads as reads
-use Rattle.line.proofs.scanner.Scanner.past_comment.Lts as lts
-use Rattle.line.proofs.counts.Counts.part.Reads as part-reads
-use Rattle.text.proofs.slice.byte_from.Reads as byte-from-reads
 
 -- src/scanner.rt:148:13
 byte-from-requires : tie.Need-byte-from-requires

@@ -1,11 +1,6 @@
 use borrow.Author.Needs.{needs}
 use Rattle.line.proofs.scanner.Scanner.past_first.Statement.{statement}
 use Rattle.line.proofs.scanner.Scanner.past_first.Tie as tie
-use Rattle.line.proofs.scanner.Scanner.past_first.Reads as reads
-use Rattle.line.proofs.scanner.Scanner.past_first.Lts as lts
-use Rattle.line.proofs.scanner.Scanner.is_between.Reads as is-between-reads
-use Rattle.line.proofs.scanner.Scanner.past_blanks.Reads as past-blanks-reads
-use Rattle.line.proofs.scanner.Scanner.past_byte.Reads as past-byte-reads
 
 -- src/scanner.rt:158:12
 is-between-requires : tie.Need-is-between-requires

@@ -5,12 +5,6 @@ use native.Mathlib.Omega.{arith}
 use borrow.Author.Needs.{needs}
 use Rattle.line.proofs.scanner.Scanner.past_join.Statement.{statement}
 use Rattle.line.proofs.scanner.Scanner.past_join.Tie as tie
-use Rattle.line.proofs.scanner.Scanner.past_join.Reads as reads
-use Rattle.line.proofs.scanner.Scanner.past_join.Lts as lts
-use Rattle.line.proofs.counts.Counts.add_join.Reads as add-join-reads
-use Rattle.line.proofs.mode.mode_joined.Reads as mode-joined-reads
-use Rattle.line.proofs.run.run_end.Reads as run-end-reads
-use Rattle.line.proofs.scanner.byte_before.Reads as byte-before-reads
 
 byte-before-requires : tie.Need-byte-before-requires
 byte-before-requires c κs = search needs

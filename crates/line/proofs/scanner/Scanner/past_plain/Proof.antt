@@ -2,10 +2,6 @@ use Rattle.line.proofs.ScannerLaws.{goes-plain}
 use borrow.Author.Needs.{needs}
 use Rattle.line.proofs.scanner.Scanner.past_plain.Statement.{statement}
 use Rattle.line.proofs.scanner.Scanner.past_plain.Tie as tie
-use Rattle.line.proofs.scanner.Scanner.past_plain.Reads as reads
-use Rattle.line.proofs.scanner.Scanner.past_plain.Lts as lts
-use Rattle.line.proofs.run.run_end.Reads as run-end-reads
-use Rattle.text.proofs.buffer.put_all.Reads as put-all-reads
 
 run-end-requires : tie.Need-run-end-requires
 run-end-requires c κs = search needs

@@ -5,11 +5,6 @@ use mathlib.Core.Path.{sym, ap, _∙_}
 use borrow.Author.Needs.{needs}
 use Rattle.line.proofs.scanner.Scanner.past_run.Statement.{statement}
 use Rattle.line.proofs.scanner.Scanner.past_run.Tie as tie
-use Rattle.line.proofs.scanner.Scanner.past_run.Reads as reads
-use Rattle.line.proofs.scanner.Scanner.past_run.Lts as lts
-use Rattle.line.proofs.mode.is_unquoted.Reads as is-unquoted-reads
-use Rattle.line.proofs.scanner.Scanner.past_comment.Reads as past-comment-reads
-use Rattle.line.proofs.scanner.Scanner.past_plain.Reads as past-plain-reads
 
 enum-known-mode : tie.Need-enum-known-mode
 enum-known-mode c = search needs

@@ -4,12 +4,6 @@ use mathlib.Core.Path.{sym, _∙_}
 use borrow.Author.Needs.{needs}
 use Rattle.line.proofs.scanner.Scanner.step.Statement.{statement}
 use Rattle.line.proofs.scanner.Scanner.step.Tie as tie
-use Rattle.line.proofs.scanner.Scanner.step.Reads as reads
-use Rattle.line.proofs.scanner.Scanner.step.Lts as lts
-use Rattle.line.proofs.scanner.Scanner.past_first.Reads as past-first-reads
-use Rattle.line.proofs.scanner.Scanner.past_join.Reads as past-join-reads
-use Rattle.line.proofs.scanner.Scanner.past_run.Reads as past-run-reads
-use Rattle.line.proofs.scanner.joins_at.Reads as joins-at-reads
 
 joins-at-requires : tie.Need-joins-at-requires
 joins-at-requires c κs = search needs
