@@ -16,7 +16,7 @@ use Rattle.suauth.specs.declared.Action.{Action}
 use Rattle.suauth.specs.declared.Action.the-variants.{Deny, NoPassword, OwnPassword}
 use Rattle.suauth.specs.declared.SuAnswer.{SuAnswer}
 use Rattle.suauth.specs.declared.SuAnswer.the-variants.{Deny as DenyBy, NoPassword as NoPasswordBy, OwnPassword as OwnPasswordBy, NoRule, MalformedQuestion, LongFile, RefusedByte, CutShort, MalformedLine}
-use Rattle.suauth.specs.Rule.{Names, Ids, everyone, those, allExcept, Rule, Malformed, malformed, ruleIn}
+use Rattle.suauth.specs.Rule.{Names, Ids, everyone, those, allExcept, Rule, Malformed, ruleIn}
 use Rattle.suauth.specs.Answer.{fileLimit}
 
 -- ---- the question
