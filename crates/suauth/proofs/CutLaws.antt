@@ -21,7 +21,7 @@ use Rattle.suauth.specs.Rule.{Malformed}
 use Rattle.suauth.specs.Answer.{toldOf, isDecision, saysNoRule, lineTold}
 use Rattle.suauth.specs.Meaning.{Question, Asked, questionOf, Decision, lineRead, linesGive, actionBy, settled, readBytes, readFile, answerOf}
 use Rattle.suauth.specs.Cut.{nothingYet, cutAnswer, CutSafe}
-use Rattle.suauth.specs.Contract.{WholeOf, CutOf}
+use Rattle.suauth.specs.Contract.{Promised}
 use Rattle.suauth.proofs.LineLaws.{once}
 
 -- ---- where a file gives a decision, every check before the lines has passed
@@ -80,9 +80,9 @@ cut-safe t a n l f =
     read (cut-asks n w) ∙ cut-gives t n (w .question) l (linesGive (w .question) t) refl (rw (read w) at f) ∙ ap (cutAnswer t n) (sym (read w))
 
 -- so an answer that is the definition's is right as the whole one and as a cut one
-pub promised : (t : List ℕ) (a : Asked) (r : SuAnswer) → r ≡ answerOf t a → (r ≡ answerOf t a) × WholeOf t a r × CutOf t a r
-promised t a r e = (
-  e,
-  λ n l f. rw e (cut-safe t a n l (ap isDecision (sym e) ∙ f)),
-  λ w n l h f. e ∙ ap (λ s. answerOf s a) (sym h) ∙ cut-safe w a n l f,
-)
+pub promised : (t : List ℕ) (a : Asked) (r : SuAnswer) → r ≡ answerOf t a → Promised t a r
+promised t a r e = record {
+  meaning = e;
+  whole = λ n l f. rw e (cut-safe t a n l (ap isDecision (sym e) ∙ f));
+  cut = λ w n l h f. e ∙ ap (λ s. answerOf s a) (sym h) ∙ cut-safe w a n l f;
+}

@@ -3,7 +3,7 @@ use Prim.Native.Nat.{ℕ, _≤_}
 use mathlib.Core.Path.{_≡_}
 use mathlib.Core.Bool.{Bool, true, false, not}
 use mathlib.Core.List.{List}
-use mathlib.Core.Option.{Option, none, some, orElse}
+use mathlib.Core.Option.{Option, none, some}
 use lib.ListN.{length, take, drop}
 use Rattle.text.specs.declared.slice.Found.{Found}
 use Rattle.text.specs.declared.slice.Found.the-variants.{At, Nothing}
@@ -43,6 +43,12 @@ WholeOf t a r = (n : ℕ) → n ≤ length t → CutAt t n r (answerOf (take n t
 -- r as the answer of a cut: for every file w of which t is the beginning, r is what demand 3 says beside the answer of w
 abbrev pub CutOf : List ℕ → Asked → SuAnswer → Type 0
 CutOf t a r = (w : List ℕ) (n : ℕ) → n ≤ length w → take n w ≡ t → CutAt w n (answerOf w a) r
+
+-- what a call promises: its answer is the meaning's, and right as the answer of the whole and of a cut
+pub record Promised (t : List ℕ) (a : Asked) (r : SuAnswer) : Type 0 where
+  pub meaning : r ≡ answerOf t a
+  pub whole : WholeOf t a r
+  pub cut : CutOf t a r
 
 -- ---- a line
 -- the bytes behind a word and one blank begin at the place that a search tells

@@ -13,8 +13,8 @@ use question::form::Listed;
 use question::form::name_is_good;
 use question::form::strings_are_good;
 ghost use mathlib.Core.Path.{_≡_};
-ghost use Rattle.suauth.specs.Meaning.{questionOf, answerOf};
-ghost use Rattle.suauth.specs.Contract.{asking, isQuestion, WholeOf, CutOf};
+ghost use Rattle.suauth.specs.Meaning.{questionOf};
+ghost use Rattle.suauth.specs.Contract.{asking, isQuestion, Promised};
 
 // What a rule of a su file says.
 pub enum Action {
@@ -54,7 +54,7 @@ fn question_is_good(target: &[u8], user: &[u8], groups: &[u8]) -> bool
 
 // The answer for a user who has these groups and wants to be the target. Groups are zero-ended strings one after the other.
 pub fn su_answer(file: &[u8], target: &[u8], user: &[u8], groups: &[u8]) -> SuAnswer
-    ensures { λ r. ⌜ (r ≡ answerOf (now (file .entry)) (asking (now (target .entry)) (now (user .entry)) (now (groups .entry)))) × WholeOf (now (file .entry)) (asking (now (target .entry)) (now (user .entry)) (now (groups .entry))) r × CutOf (now (file .entry)) (asking (now (target .entry)) (now (user .entry)) (now (groups .entry))) r ⌝ }
+    ensures { λ r. ⌜ Promised (now (file .entry)) (asking (now (target .entry)) (now (user .entry)) (now (groups .entry))) r ⌝ }
 {
     if !question_is_good(target, user, groups) {
         return SuAnswer::MalformedQuestion;

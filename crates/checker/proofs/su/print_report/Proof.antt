@@ -34,7 +34,7 @@ print-filled-requires : tie.Need-print-filled-requires
 print-filled-requires c κs = λ n e. let w = c .before .before .explain-su .ensures in omega (arith, wrote-length w, wrote-done w e .0)
 
 returns : tie.Need-returns
-returns c = reported _ _ _ _ _ _ (rw (c .before .before .before .before .before .su-answer .ensures .0) at (c .before .before .before .explain-su .ensures)) (sym (c .before .before .before .before .before .before .before .before .before .report-buffer .ensures)) (c .print-filled .ensures)
+returns c = reported _ _ _ _ _ _ (rw (c .before .before .before .before .before .su-answer .ensures .meaning) at (c .before .before .before .explain-su .ensures)) (sym (c .before .before .before .before .before .before .before .before .before .report-buffer .ensures)) (c .print-filled .ensures)
 
 pub print-report-spec : {M : Type 1} → statement M
 print-report-spec =

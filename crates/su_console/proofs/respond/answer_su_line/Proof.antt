@@ -53,7 +53,7 @@ su-answer-requires : tie.Need-su-answer-requires
 su-answer-requires c κs = search needs
 
 returns-2 : tie.Need-returns-2
-returns-2 c = asked-answer (c .before .before .before .before .before .before .before .before .read-su-question-line .ensures) _ (c .before .before .before .before .before .before .pieces .given .1) (c .su-answer .ensures .0)
+returns-2 c = asked-answer (c .before .before .before .before .before .before .before .before .read-su-question-line .ensures) _ (c .before .before .before .before .before .before .pieces .given .1) (c .su-answer .ensures .meaning)
 
 pub answer-su-line-spec : {M : Type 1} → statement M
 answer-su-line-spec =

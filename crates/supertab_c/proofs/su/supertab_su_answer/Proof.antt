@@ -23,7 +23,7 @@ same-length : tie.Need-same-length
 same-length c = search needs
 
 returns-2 : tie.Need-returns-2
-returns-2 c = let a = c .before .before .before .before .before .before .before .before .args in su-told (a .file .now) _ (a .report .now) (c .before .before .before .if1 .left) (c .before .before .su-answer .ensures .0) (c .before .told-by .ensures) (kept (search needs) (c .counted-as .ensures))
+returns-2 c = let a = c .before .before .before .before .before .before .before .before .args in su-told (a .file .now) _ (a .report .now) (c .before .before .before .if1 .left) (c .before .before .su-answer .ensures .meaning) (c .before .told-by .ensures) (kept (search needs) (c .counted-as .ensures))
 
 pub supertab-su-answer-spec : {M : Type 1} → statement M
 supertab-su-answer-spec =
