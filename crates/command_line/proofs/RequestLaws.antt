@@ -1,8 +1,8 @@
 -- The laws of the request.
 use mathlib.Core.Path.{_≡_, refl, sym, ap, _∙_}
-use mathlib.Core.Bool.{Bool, true, false}
+use mathlib.Core.Bool.{true, false}
 use mathlib.Core.List.{List, [], _∷_}
-use Prim.Native.Nat.{ℕ, suc, _+_, _-_, _≤_, _<_}
+use Prim.Native.Nat.{ℕ, _+_, _-_, _≤_}
 use native.Mathlib.Omega.{arith}
 use lib.ListN.{length, take, drop, length-drop}
 use lib.Seq.{drop-drop, length-take-le}
@@ -12,7 +12,7 @@ use Rattle.text.specs.Contract.{findByte}
 use Rattle.text.specs.declared.slice.Found.the-variants.{At, Nothing}
 use Rattle.text.proofs.Slices.{head-is}
 use Rattle.command_line.specs.Word.{Word}
-use Rattle.command_line.specs.Options.{wrongAmong, fileMissing, optionCount}
+use Rattle.command_line.specs.Options.{wrongAmong, fileMissing}
 use Rattle.command_line.specs.Operands.{forTask}
 use Rattle.command_line.specs.Request.{fileNumber, fileTask, logTask, taskOf, useOf, lastWord, ifGood, requestWith, requestOf}
 use Rattle.command_line.specs.Contract.{CountsOptions}

@@ -1,9 +1,9 @@
 -- The options, which stand first and in any order: each is one word, with its file in the word behind it where it takes one.
-use Prim.Native.Nat.{ℕ, suc, _+_, _-_}
+use Prim.Native.Nat.{ℕ, suc, _+_}
 use mathlib.Core.Bool.{Bool, cond, not, _&&_, _||_}
 use mathlib.Core.List.{List, [], _∷_, _++_}
 use lib.Dec.{eqb}
-use lib.ListN.{length, getD}
+use lib.ListN.{length}
 use Rattle.text.specs.Lists.{any, has}
 use Rattle.command_line.specs.Word.{Word, operand, dash, otherOption, check, su, log, isOption}
 use Rattle.command_line.specs.declared.request.Misuse.{Misuse}

@@ -1,7 +1,7 @@
 -- What the arguments ask for: the options that stand first say the task, and what stands behind them is what it is done with.
 use Prim.Native.Nat.{ℕ, _+_, _-_}
-use mathlib.Core.Bool.{Bool, true, false, cond}
-use mathlib.Core.List.{List, [], _∷_}
+use mathlib.Core.Bool.{true, false, cond}
+use mathlib.Core.List.{List, []}
 use lib.ListN.{length, take, drop, getD}
 use Rattle.text.specs.Lists.{has}
 use Rattle.text.specs.Slice.{headIs}

@@ -7,7 +7,6 @@ use Rattle.text.specs.Lists.{count}
 use Rattle.record.specs.Layout.{unpackedBits, numberFrom, fieldsOf, ageFrom, isBelow, sizeOf}
 use Rattle.record.specs.Stored.{known}
 use Rattle.record.specs.Read.{readBits, recordIn, recordTold}
-use Rattle.figures.specs.declared.Figures.{Figures}
 use Rattle.figures.specs.Figures.{fieldsShown, howMany, total, refusedOf, belowZero, isFromZero, fromZero, table, figuresOf}
 
 abbrev three : List (List ℕ)

@@ -5,7 +5,7 @@ use mathlib.Core.List.{List, [], _++_, append-nil}
 use mathlib.Core.Logic.{inl, inr}
 use Prim.Native.Nat.{ℕ, zero, suc, _<_}
 use native.Mathlib.Omega.{arith}
-use lib.ListN.{length, take}
+use lib.ListN.{take}
 use Rattle.console.specs.QuestionLine.{lineLimit}
 use Rattle.streams.specs.declared.input.Loaded.{Loaded}
 use Rattle.streams.specs.declared.input.Loaded.the-variants.{Bytes, Failed}

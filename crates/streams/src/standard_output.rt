@@ -3,7 +3,6 @@ use super::message;
 use libc::STDOUT_FILENO;
 ghost use mathlib.Core.Path.{_≡_};
 ghost use mathlib.Core.Bool.{true};
-ghost use lib.ListN.{length};
 ghost use Rattle.streams.specs.Contract.{countedOn, Prints};
 
 // Standard output, with how many bytes were handed to it. The fields are private, so that no caller can have a larger count

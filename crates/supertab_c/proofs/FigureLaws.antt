@@ -1,5 +1,5 @@
 -- The calls on figures, each as a whole. Assumes nothing.
-use mathlib.Core.Path.{_≡_, refl, sym, ap, _∙_}
+use mathlib.Core.Path.{_≡_, refl, sym, _∙_}
 use mathlib.Core.Bool.{Bool, true, false}
 use mathlib.Core.List.{List, [], _∷_}
 use Prim.Native.Nat.{ℕ, _≤_}
@@ -12,7 +12,7 @@ use Rattle.figures.specs.declared.Feeding.the-variants.{Taken, NotWhole, PastLi
 use Rattle.figures.specs.Feed.{feedTold}
 use Rattle.figure_numbers.specs.declared.lent.FedNumbers.{FedNumbers}
 use Rattle.figure_numbers.specs.declared.lent.FedNumbers.the-variants.{Unusable, Fed}
-use Rattle.figure_numbers.specs.Contract.{Clears, numbersAnswer, numbersFed, FeedsNumbers}
+use Rattle.figure_numbers.specs.Contract.{Clears, FeedsNumbers}
 use Rattle.supertab_c.specs.Report.{counted}
 use Rattle.supertab_c.specs.Call.{shortReport}
 use Rattle.supertab_c.specs.Figures.{newNumbers, newCall, fedTold, pastAfter, fed, tellsFed, feedCall, CallFeeds}

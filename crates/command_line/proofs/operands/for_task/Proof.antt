@@ -1,4 +1,3 @@
-use mathlib.Core.Path.{_∙_, sym}
 use Rattle.command_line.specs.Operands.{forTask}
 use borrow.Author.Needs.{needs}
 use Rattle.command_line.proofs.operands.for_task.Statement.{statement}

@@ -1,6 +1,4 @@
-use mathlib.Core.Path.{_≡_, sym}
 use Rattle.command_line.proofs.RequestLaws.{last-none}
-use mathlib.Core.Path.{_≡_}
 use borrow.Author.Needs.{needs}
 use Rattle.command_line.proofs.uses.last_of.Statement.{statement}
 use Rattle.command_line.proofs.uses.last_of.Tie as tie

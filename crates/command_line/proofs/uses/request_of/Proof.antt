@@ -1,8 +1,5 @@
-use mathlib.Core.Path.{sym, ap, _∙_}
+use mathlib.Core.Path.{sym, _∙_}
 use lib.Seq.{length-take-le}
-use lib.ListN.{drop}
-use Prim.Native.Nat.{_+_}
-use Rattle.command_line.specs.Options.{fileMissing}
 use Rattle.command_line.proofs.RequestLaws.{request-bad, request-lacks, request-use}
 use borrow.Author.Needs.{needs}
 use Rattle.command_line.proofs.uses.request_of.Statement.{statement}

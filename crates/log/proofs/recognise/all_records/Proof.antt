@@ -10,9 +10,6 @@ use Rattle.log.specs.Recognised.{isRecord}
 use borrow.Author.Needs.{needs}
 use Rattle.log.proofs.recognise.all_records.Statement.{statement}
 use Rattle.log.proofs.recognise.all_records.Tie as tie
-use Rattle.log.proofs.recognise.all_records.Reads as reads
-use Rattle.log.proofs.recognise.all_records.Lts as lts
-use Rattle.log.proofs.recognise.is_record.Reads as is-record-reads
 
 abbrev Inv-loop : tie.InvT-loop
 Inv-loop block at₀ at = (at ≤ length block) × (all isRecord (recordsOf (drop at block)) ≡ all isRecord (recordsOf block))

@@ -2,10 +2,6 @@ use Rattle.log.specs.Recognised.{isRecord}
 use borrow.Author.Needs.{needs}
 use Rattle.log.proofs.recognise.is_record.Statement.{statement}
 use Rattle.log.proofs.recognise.is_record.Tie as tie
-use Rattle.log.proofs.recognise.is_record.Reads as reads
-use Rattle.log.proofs.recognise.is_record.Lts as lts
-use Rattle.record.proofs.Record.number.Reads as number-reads
-use Rattle.record.proofs.read.read_record.Reads as read-record-reads
 
 read-record-requires : tie.Need-read-record-requires
 read-record-requires c κs = search needs

@@ -2,9 +2,6 @@ use Rattle.log.proofs.RecogniseLaws.{text-refused, text-accepted}
 use borrow.Author.Needs.{needs}
 use Rattle.log.proofs.recognise.is_text.Statement.{statement}
 use Rattle.log.proofs.recognise.is_text.Tie as tie
-use Rattle.log.proofs.recognise.is_text.Reads as reads
-use Rattle.log.proofs.recognise.is_text.Lts as lts
-use Rattle.line.proofs.refused.refused_byte.Reads as refused-byte-reads
 
 refused-byte-requires : tie.Need-refused-byte-requires
 refused-byte-requires c κs = search needs

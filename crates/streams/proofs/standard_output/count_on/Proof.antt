@@ -1,5 +1,4 @@
 use borrow.Author.Needs.{needs}
-use native.Mathlib.Omega.{arith}
 use Rattle.streams.specs.Contract.{countedOn}
 use Rattle.streams.proofs.standard_output.count_on.Statement.{statement}
 use Rattle.streams.proofs.standard_output.count_on.Tie as tie

@@ -1,8 +1,6 @@
 use Rattle.log.proofs.RecogniseLaws.{kind-empty, kind-text, kind-other, kind-log, kind-cut}
 use Rattle.log.proofs.recognise.Seen.kind.Statement.{statement}
 use Rattle.log.proofs.recognise.Seen.kind.Tie as tie
-use Rattle.log.proofs.recognise.Seen.kind.Reads as reads
-use Rattle.log.proofs.recognise.Seen.kind.Lts as lts
 
 returns : tie.Need-returns
 returns c = kind-empty _ (c .if1 .taken)
