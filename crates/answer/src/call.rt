@@ -20,7 +20,10 @@ pub fn answer(
     args: &[u8],
     buffer: &mut [u8],
 ) -> Answer
-    ensures { λ r. ⌜ Promised (now (table .entry)) (asking (now (command .entry)) (now (user .entry)) (now (groups .entry)) (now (host .entry)) minute last (now (args .entry))) (now (buffer .entry)) (result r (now (buffer .exit))) ⌝ }
+    ensures { λ r. ⌜ Promised
+        (now (table .entry))
+        (asking (now (command .entry)) (now (user .entry)) (now (groups .entry)) (now (host .entry)) minute last (now (args .entry)))
+        (now (buffer .entry)) (result r (now (buffer .exit))) ⌝ }
 {
     if buffer.len() < Answer::BUFFER {
         return Answer::SmallBuffer;

@@ -23,7 +23,8 @@ ghost use Rattle.answer.specs.Contract.{ReadsTable};
 
 // The answer where no line has a fault.
 fn resolve(decision: Decision, path: &[u8; Path::BYTES], buffer: &mut [u8]) -> Answer
-    ensures { λ r. ⌜ (leastBuffer ≤ length (now (buffer .entry)) → result r (now (buffer .exit)) ≡ settled (now (buffer .entry)) (value (decidedIn decision (now (path .entry))))) ⌝ }
+    ensures { λ r. ⌜ (leastBuffer ≤ length (now (buffer .entry))
+        → result r (now (buffer .exit)) ≡ settled (now (buffer .entry)) (value (decidedIn decision (now (path .entry))))) ⌝ }
 {
     if !decision.made {
         return Answer::NoEntry;
@@ -44,7 +45,8 @@ fn resolve(decision: Decision, path: &[u8; Path::BYTES], buffer: &mut [u8]) -> A
 
 // The answer of the lines: the first fault, a line that is cut, or the decision.
 fn settle(read: LinesRead, path: &[u8; Path::BYTES], buffer: &mut [u8]) -> Answer
-    ensures { λ r. ⌜ (leastBuffer ≤ length (now (buffer .entry)) → result r (now (buffer .exit)) ≡ settled (now (buffer .entry)) (endedBy (decidedIn (read .decision) (now (path .entry))) (read .outcome))) ⌝ }
+    ensures { λ r. ⌜ (leastBuffer ≤ length (now (buffer .entry))
+        → result r (now (buffer .exit)) ≡ settled (now (buffer .entry)) (endedBy (decidedIn (read .decision) (now (path .entry))) (read .outcome))) ⌝ }
 {
     let outcome = read.outcome;
     match outcome {
@@ -66,7 +68,9 @@ pub fn read_table(
     args: &[u8],
     buffer: &mut [u8],
 ) -> Answer
-    ensures { λ r. ⌜ ReadsTable (now (table .entry)) (now (command .entry)) (now (user .entry)) (now (groups .entry)) (now (host .entry)) minute last (now (args .entry)) (now (buffer .entry)) (now (buffer .exit)) r ⌝ }
+    ensures { λ r. ⌜ ReadsTable
+        (now (table .entry)) (now (command .entry)) (now (user .entry)) (now (groups .entry)) (now (host .entry))
+        minute last (now (args .entry)) (now (buffer .entry)) (now (buffer .exit)) r ⌝ }
 {
     match acceptance_of(table) {
         Acceptance::Long => Answer::LongTable,

@@ -24,7 +24,10 @@ pub extern "C" fn supertab_answer(
     buffer: &mut [u8],
     report: &mut [i64],
 ) -> u8
-    ensures { λ r. ⌜ called r (now (buffer .exit)) (now (report .exit)) ≡ callOf (now (table .entry)) (askedBy (now (command .entry)) (now (user .entry)) (now (groups .entry)) (now (host .entry)) minute authenticated age (now (args .entry))) (now (buffer .entry)) (now (report .entry)) ⌝ }
+    ensures { λ r. ⌜ called r (now (buffer .exit)) (now (report .exit)) ≡ callOf
+        (now (table .entry))
+        (askedBy (now (command .entry)) (now (user .entry)) (now (groups .entry)) (now (host .entry)) minute authenticated age (now (args .entry)))
+        (now (buffer .entry)) (now (report .entry)) ⌝ }
 {
     if report.len() < Report::LENGTH {
         return Report::SHORT;

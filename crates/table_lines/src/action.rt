@@ -40,7 +40,10 @@ pub fn line_action<'a>(
     sizes: &'a [usize; Variables::SIZES],
     names: usize,
 ) -> LineAction
-    ensures { λ r. ⌜ LineDoes (now (line .entry)) (now (text .entry)) (now (text .exit)) (now (ends .entry)) (now (ends .exit)) shell judging (now (command .entry)) (now (user .entry)) (now (groups .entry)) (now (host .entry)) minute (now (bytes .entry)) (now (sizes .entry)) names r ⌝ }
+    ensures { λ r. ⌜ LineDoes
+        (now (line .entry)) (now (text .entry)) (now (text .exit)) (now (ends .entry)) (now (ends .exit))
+        shell judging (now (command .entry)) (now (user .entry)) (now (groups .entry)) (now (host .entry)) minute
+        (now (bytes .entry)) (now (sizes .entry)) names r ⌝ }
 {
     if line.len() == 0 {
         return LineAction::Nothing;

@@ -25,7 +25,9 @@ pub fn define_line<'a>(
     user: &[u8],
     host: &[u8],
 ) -> Defined
-    ensures { λ r. ⌜ LineDefined variables (now (user .entry)) (now (host .entry)) (drop from (fieldsIn (now (text .entry)) (now (ends .entry)) count)) r ⌝ }
+    ensures { λ r. ⌜ LineDefined
+        variables (now (user .entry)) (now (host .entry))
+        (drop from (fieldsIn (now (text .entry)) (now (ends .entry)) count)) r ⌝ }
 {
     let mut name = [0u8; FieldText::BYTES];
     let mut value = [0u8; FieldText::BYTES];

@@ -43,7 +43,9 @@ pub fn read_lines(
     args: &[u8],
     path: &mut [u8; Path::BYTES],
 ) -> LinesRead
-    ensures { λ r. ⌜ ReadsLines (now (table .entry)) (now (command .entry)) (now (user .entry)) (now (groups .entry)) (now (host .entry)) minute last (now (args .entry)) (now (path .exit)) r ⌝ }
+    ensures { λ r. ⌜ ReadsLines
+        (now (table .entry)) (now (command .entry)) (now (user .entry)) (now (groups .entry)) (now (host .entry))
+        minute last (now (args .entry)) (now (path .exit)) r ⌝ }
 {
     let mut variables = Variables::new();
     let mut reader = Reader::new();
