@@ -78,7 +78,7 @@ struct measured {
     size_t most, worst;
 };
 
-static struct measured of_table = {call, 96 * 1024, 0}, of_su_file = {su_call, 8 * 1024, 0};
+static struct measured of_table = {call, 68 * 1024, 0}, of_su_file = {su_call, 8 * 1024, 0};
 
 static void measure_call(struct measured *m, const char *name, int wanted) {
     size_t before = touched(idle), all = touched(m->run);
