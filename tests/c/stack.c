@@ -1,6 +1,6 @@
 /* How much stack the whole call on a table takes, and the one on a su file: it is run on a thread whose stack was painted
  * beforehand, and the bytes that it touched are counted; what a thread takes by itself is subtracted. Each table and file
- * also has the answer that it must get, so that it is known to be read to where it matters. Fails above 96 KB, and above
+ * also has the answer that it must get, so that it is known to be read to where it matters. Fails above 68 KB, and above
  * 8 KB for a su file. Tables may be named as arguments, for a question by ann on van2 for setclock. Prints a line for each
  * table and file, and a last line 'N passed, M failed'. */
 #define _GNU_SOURCE
