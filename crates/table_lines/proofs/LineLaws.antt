@@ -4,7 +4,7 @@ use mathlib.Core.Bool.{Bool, true, false, not}
 use mathlib.Core.List.{List, []}
 use mathlib.Core.Option.{some, orElse, Option·map}
 use Prim.Native.Nat.{ℕ, _+_, _≤_, _<_}
-use lib.ListN.{length, drop}
+use lib.ListN.{length, take, drop}
 use Rattle.text.proofs.Laws.{clash}
 use Rattle.fault.specs.Fault.{Reading, fault, value}
 use Rattle.fault.specs.declared.Cause.{Cause}
@@ -17,8 +17,8 @@ use Rattle.line.specs.Fold.{ofLine, atBeginning, faulty, cut}
 use Rattle.line.specs.Scan.{mostJoined, mostFields}
 use Rattle.line.specs.Contract.{linesFrom, LineEnds, fieldsIn}
 use Rattle.line.proofs.StepLaws.{lineAt, outcomeFrom, from-start, from-end, from-cut, from-beginning, from-on}
-use Rattle.variables.specs.Scope.{Scope}
-use Rattle.variables.specs.Contract.{definitionsOf, scopeIn}
+use Rattle.variables.specs.Scope.{Scope, definition}
+use Rattle.variables.specs.Contract.{definitionsOf, scopeIn, Stores}
 use Rattle.variables.specs.declared.Variables.{Variables}
 use Rattle.options.specs.Contract.{optionsIn}
 use Rattle.condition.specs.Condition.{judgeOf}
@@ -30,18 +30,20 @@ use Rattle.entry_line.specs.declared.decide.Decided.{Decided}
 use Rattle.reader.specs.State.{State, decidedAt, start, scopeOf, withDefinition, withSettings, withEntry}
 use Rattle.reader.specs.Colon.{defineLine, globalLine}
 use Rattle.reader.specs.Read.{judgeFor, lineRead}
-use Rattle.reader.specs.Contract.{Keeps, Changes, GlobalChanges, scopeFor}
+use Rattle.reader.specs.Contract.{Keeps, Changes, GlobalChanges, LineDefines, scopeFor}
+use Rattle.reader.specs.declared.define.DefineRead.{DefineRead}
+use Rattle.reader.specs.declared.define.DefineRead.the-variants.{Fault as DefineFault, At as DefineAt}
 use Rattle.reader.specs.declared.state.Reader.{Reader}
 use Rattle.reader.specs.declared.state.Changed.{Changed}
 use Rattle.reader.specs.declared.state.LineOutcome.the-variants.{Fault as LineFault, Good as LineGood}
 use Rattle.reader.proofs.ReadLaws.{global-change}
 use Rattle.table_lines.specs.declared.Decision.{Decision as CodeDecision}
 use Rattle.table_lines.specs.declared.LinesRead.{LinesRead}
-use Rattle.table_lines.specs.declared.define.Defined.{Defined}
 use Rattle.table_lines.specs.declared.action.LineAction.{LineAction}
 use Rattle.table_lines.specs.declared.action.LineAction.the-variants.{Fault, Nothing, Define, Global, Decide}
 use Rattle.table_lines.specs.Lines.{linesGive}
-use Rattle.table_lines.specs.Contract.{AskedWith, decidedBy, decidedIn, refusedBy, endedBy, isMade, Stands, DoesIn, LineDoes, LineDefined}
+use Rattle.table_lines.specs.Contract.{AskedWith, decidedBy, decidedIn, refusedBy, endedBy, isMade, Stands, DoesIn, LineDoes}
+use Rattle.table_lines.proofs.DefineLaws.{define-fault, define-stored}
 
 -- ---- what a `:global` comes to
 changed-fault : (args : List (List ℕ)) (o : Reading Cause State) {r : Changed} {c : Cause} → Changes args o r → r .outcome ≡ LineFault c → o ≡ fault c
@@ -108,18 +110,18 @@ module _ {q : Question} {t : List ℕ} {v : Variables} {r : Reader} {d : CodeDec
       scope-is = rw (k .itsUser, k .itsHost)
 
       -- ---- `:define`
-      module _ {n i : ℕ} (z : x ≡ Define n i) {y : Defined} (h : LineDefined v user host (drop i (fieldsIn text ends n)) y) where
+      module _ {n i : ℕ} (z : x ≡ Define n i) {name bytes : List ℕ} {y : DefineRead} (h : LineDefines user host (v .bytes) (v .sizes) (v .count) (drop i (fieldsIn text ends n)) name bytes y) where
         defining : {o : Reading Cause State} → defineLine (scopeFor user host (f .state)) (f .state) (drop i (fieldsIn text ends n)) ≡ o → lineRead q (f .state) (lineAt t at e number) ≡ atBeginning o
         defining o = does z ∙ ap atBeginning (ap (λ sc. defineLine sc (f .state) (drop i (fieldsIn text ends n))) (sym scope-is) ∙ o)
 
-        pub turn-define-fault : {c : Cause} → y .outcome ≡ LineFault c → linesGive q t ≡ fault (faulty c at)
-        turn-define-fault o = stopped (defining (rw o at (h .defined (f .state) (f .variables))))
+        pub turn-define-fault : {c : Cause} → y ≡ DefineFault c → linesGive q t ≡ fault (faulty c at)
+        turn-define-fault o = stopped (defining (define-fault v h (f .state) (f .variables) o))
 
-        pub turn-defined : y .outcome ≡ LineGood → SoFar q t (y .variables) r d path e (number + count)
+        pub turn-defined : {place names a b : ℕ} {v′ : Variables} → y ≡ DefineAt place names a b → (place < 64 → length (take a name) ≤ 64 → length (take b bytes) ≤ 256 → (v′ .count ≡ names) × Stores (v .bytes) (v .sizes) place (definition (take a name) (take b bytes)) (v′ .bytes) (v′ .sizes)) → SoFar q t v′ r d path e (number + count)
         unfolding withDefinition
-        turn-defined o =
-            let w = rw o at (h .defined (f .state) (f .variables)) in
-            onward (defining (w .1)) (w .2) (record { options = f .keeps .options; failures = f .keeps .failures; shell = f .keeps .shell }) (f .decided)
+        turn-defined o stores =
+            let w = define-stored v h (f .state) (f .variables) o stores in
+            onward (defining (w .gives)) (w .variables) (record { options = f .keeps .options; failures = f .keeps .failures; shell = f .keeps .shell }) (f .decided)
 
       -- ---- `:global`
       module _ {n i : ℕ} (z : x ≡ Global n i) {y : Changed} (h : GlobalChanges user host (definitionsOf v) (stringsIn args) (drop i (fieldsIn text ends n)) r y) where

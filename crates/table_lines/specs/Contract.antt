@@ -29,15 +29,12 @@ use Rattle.reader.specs.State.{State, Decision, decidedAt, scopeOf, withDefinit
 use Rattle.reader.specs.Colon.{defineLine, globalLine}
 use Rattle.reader.specs.Read.{judgeFor, lineRead}
 use Rattle.reader.specs.Contract.{scopeFor}
-use Rattle.reader.specs.declared.state.LineOutcome.{LineOutcome}
-use Rattle.reader.specs.declared.state.LineOutcome.the-variants.{Fault as LineFault, Good as LineGood}
 use Rattle.table_lines.specs.declared.Decision.{Decision as CodeDecision}
 use Rattle.table_lines.specs.declared.LinesOutcome.{LinesOutcome}
 use Rattle.table_lines.specs.declared.LinesOutcome.the-variants.{Refused, Cut, Done}
 use Rattle.table_lines.specs.declared.LinesRead.{LinesRead}
 use Rattle.table_lines.specs.declared.action.LineAction.{LineAction}
 use Rattle.table_lines.specs.declared.action.LineAction.the-variants.{Fault, Nothing, Define, Global, Decide}
-use Rattle.table_lines.specs.declared.define.Defined.{Defined}
 use Rattle.table_lines.specs.Lines.{linesGive}
 
 -- the parts that a question was asked with
@@ -99,14 +96,11 @@ pub record LineDoes (line text text′ ends ends′ : List ℕ) (shell judging :
       → (l : Line) → l .bytes ≡ line
       → DoesIn q s l text′ ends′ r
 
--- what comes of a `:define`, with the variables v behind it
-abbrev pub DefinedIn : State → Variables → Reading Cause State → LineOutcome → Type 0
-DefinedIn s v o (LineFault c) = o ≡ fault c
-DefinedIn s v o LineGood = (x : Definition) × (o ≡ value (withDefinition x s)) × (define x (s .definitions) ≡ definitionsOf v)
-
--- a `:define` by its fields, in every state with these variables
-pub record LineDefined (v : Variables) (user host : List ℕ) (fs : List (List ℕ)) (r : Defined) : Type 0 where
-  pub defined : (s : State) → s .definitions ≡ definitionsOf v → DefinedIn s (r .variables) (defineLine (scopeFor user host s) s fs) (r .outcome)
+-- a `:define` gives a state with the variables v, and changes nothing else
+pub record Defined (s : State) (v : Variables) (o : Reading Cause State) : Type 0 where
+  pub definition : Definition
+  pub gives : o ≡ value (withDefinition definition s)
+  pub variables : define definition (s .definitions) ≡ definitionsOf v
 
 -- ---- all lines
 -- the lines end at a faulty one

@@ -1,6 +1,5 @@
 // The control lines of a table, one after the other: the first fault, a line that is cut, or the decision.
 mod action; // what one line does
-mod define; // a line that is a `:define`
 pub mod lines; // the loop over the lines
 
 use entry::verdict::Verdict;

@@ -5,7 +5,6 @@ use super::LinesOutcome;
 use super::LinesRead;
 use super::action::LineAction;
 use super::action::line_action;
-use super::define::define_line;
 use entry::path::Path;
 use entry_line::decide::decide;
 use fault::Cause;
@@ -14,6 +13,8 @@ use line::ends::control_end;
 use line::scan::ScannedLine;
 use question::LastAuthentication;
 use question::WeekMinute;
+use reader::define::DefineRead;
+use reader::define::read_define;
 use reader::state::LineOutcome;
 use reader::state::Reader;
 use variables::Variables;
@@ -85,14 +86,27 @@ pub fn read_lines(
             LineAction::Fault(cause) => return refused(cause, begin, decision),
             LineAction::Nothing => continue,
             LineAction::Define(count, from) => {
-                let defined = define_line(variables, &text, &ends, count, from, user, host);
-                let outcome = defined.outcome;
-                if let LineOutcome::Fault(cause) = outcome {
-                    return refused(cause, begin, decision);
+                let mut name = [0u8; FieldText::BYTES];
+                let mut value = [0u8; FieldText::BYTES];
+                match read_define(
+                    &text,
+                    &ends,
+                    count,
+                    from,
+                    user,
+                    host,
+                    &variables.bytes,
+                    &variables.sizes,
+                    variables.count,
+                    &mut name,
+                    &mut value,
+                ) {
+                    DefineRead::Fault(cause) => return refused(cause, begin, decision),
+                    DefineRead::At(place, names, k, n) => {
+                        variables = variables.define(place, names, &name[..k], &value[..n]);
+                        continue;
+                    }
                 }
-                let next = defined.variables;
-                variables = next;
-                continue;
             }
             LineAction::Global(count, from) => {
                 let changed = reader.global(

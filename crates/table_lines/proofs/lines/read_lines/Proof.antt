@@ -3,9 +3,12 @@ use mathlib.Core.Path.{_≡_, sym, _∙_}
 use native.Mathlib.Omega.{arith}
 use borrow.Author.Needs.{needs}
 use lib.ListN.{length, length-replicate}
+use lib.Seq.{length-take-le}
+use Rattle.variables.proofs.StoreLaws.{stored-there}
 use Rattle.question.specs.Question.{Question}
 use Rattle.line.specs.Scan.{mostJoined, mostFields}
 use Rattle.table_lines.specs.Contract.{AskedWith}
+use Rattle.table_lines.proofs.DefineLaws.{place-within}
 use Rattle.table_lines.proofs.LineLaws.{SoFar, so-start, so-end, so-cut, refused-gives, turn-fault, turn-nothing, turn-define-fault, turn-defined, turn-global-fault, turn-set, turn-decided}
 use Rattle.table_lines.proofs.lines.read_lines.Statement.{statement}
 use Rattle.table_lines.proofs.lines.read_lines.Tie as tie
@@ -89,34 +92,55 @@ loop-again c =
 enum-known-count : tie.Need-enum-known-count Inv-loop μ-loop
 enum-known-count c = search needs
 
-define-line-requires : tie.Need-define-line-requires Inv-loop μ-loop
-define-line-requires c κs = search needs
+slice-aggregate-read-define : tie.Need-slice-aggregate-read-define Inv-loop μ-loop
+slice-aggregate-read-define c = sym (c .before .before .before .before .line-action .ensures .room ∙ c .before .before .before .before .before .before .before .before .before .before .before .before .before .before .before .before .before .before .loop .inv .2)
 
-enum-known-outcome : tie.Need-enum-known-outcome Inv-loop μ-loop
-enum-known-outcome c = search needs
+read-define-requires : tie.Need-read-define-requires Inv-loop μ-loop
+read-define-requires c κs = search needs
+
+enum-known-cause-2 : tie.Need-enum-known-cause-2 Inv-loop μ-loop
+enum-known-cause-2 c = search needs
 
 refused-requires-2 : tie.Need-refused-requires-2 Inv-loop μ-loop
 refused-requires-2 c κs = search needs
 
 returns-3 : tie.Need-returns-3 Inv-loop μ-loop
 returns-3 c =
-    let p = c .before .before .before .before .before .before .before .before .before .before in
+    let p = c .before .before .before .before .before .before .before .before .before .before .before .before .before .before .before in
     let w = rw (p .before .before .before .before .before .before .before .before .before .before .end .given .1) at (p .before .before .before .before .before .before .before .before .before .before .before .before .control-end .ensures) in
     let l = p .before .before .before .before .before .before .before .before .before .before .before .before .before .before .loop in
-    record { gives = λ q a. refused-gives q _ _ (c .refused2 .ensures) (turn-define-fault (l .inv .4 q a) w a (p .line-action .ensures) (l .inv .2) (l .inv .3) (c .before .before .before .before .before .before .before .before .count .given .1) (c .before .before .before .before .define-line .ensures) (c .before .before .outcome .given .1)) }
+    record { gives = λ q a. refused-gives q _ _ (c .refused2 .ensures) (turn-define-fault (l .inv .4 q a) w a (p .line-action .ensures) (l .inv .2) (l .inv .3) (c .before .before .before .before .before .before .before .before .before .before .before .before .before .count .given .1) (c .before .before .before .before .read-define .ensures) (c .before .before .cause2 .given .1)) }
 
-enum-told-3 : tie.Need-enum-told-3 Inv-loop μ-loop
-enum-told-3 c = search needs
+enum-known-place : tie.Need-enum-known-place Inv-loop μ-loop
+enum-known-place c = search needs
+
+array-share-prefix-name : tie.Need-array-share-prefix-name Inv-loop μ-loop
+array-share-prefix-name c = place-within (c .before .before .before .read-define .ensures) (c .before .place .given .1) .0
+
+slice-aggregate-define : tie.Need-slice-aggregate-define Inv-loop μ-loop
+slice-aggregate-define c = sym (length-take-le _ _ (place-within (c .before .before .before .before .read-define .ensures) (c .before .before .place .given .1) .0))
+
+array-share-prefix-value : tie.Need-array-share-prefix-value Inv-loop μ-loop
+array-share-prefix-value c = place-within (c .before .before .before .before .read-define .ensures) (c .before .before .place .given .1) .1
+
+slice-aggregate-define-2 : tie.Need-slice-aggregate-define-2 Inv-loop μ-loop
+slice-aggregate-define-2 c = sym (length-take-le _ _ (place-within (c .before .before .before .before .before .read-define .ensures) (c .before .before .before .place .given .1) .1))
+
+define-requires : tie.Need-define-requires Inv-loop μ-loop
+define-requires c κs = search needs
 
 loop-less-2 : tie.Need-loop-less-2 Inv-loop μ-loop
-loop-less-2 c = let p = c .before .before .before .before .before .before .before .before .before in let w = rw (p .before .before .before .before .before .before .before .before .before .before .end .given .1) at (p .before .before .before .before .before .before .before .before .before .before .before .before .control-end .ensures) in omega (arith, w .low, w .high)
+loop-less-2 c = let p = c .before .before .before .before .before .before .before .before .before .before .before .before .before .before .before .before .before in let w = rw (p .before .before .before .before .before .before .before .before .before .before .end .given .1) at (p .before .before .before .before .before .before .before .before .before .before .before .before .control-end .ensures) in omega (arith, w .low, w .high)
 
 loop-again-2 : tie.Need-loop-again-2 Inv-loop μ-loop
 loop-again-2 c =
-    let p = c .before .before .before .before .before .before .before .before .before in
+    let p = c .before .before .before .before .before .before .before .before .before .before .before .before .before .before .before .before .before in
     let w = rw (p .before .before .before .before .before .before .before .before .before .before .end .given .1) at (p .before .before .before .before .before .before .before .before .before .before .before .before .control-end .ensures) in
     let l = p .before .before .before .before .before .before .before .before .before .before .before .before .before .before .loop in
-    (w .high, omega (arith, w .few, l .inv .1), p .line-action .ensures .room ∙ l .inv .2, p .line-action .ensures .places ∙ l .inv .3, λ q a. turn-defined (l .inv .4 q a) w a (p .line-action .ensures) (l .inv .2) (l .inv .3) (c .before .before .before .before .before .before .before .count .given .1) (c .before .before .before .define-line .ensures) (c .before .enum-told3 .given .1))
+    let bytes : length (c .define .result .bytes) ≡ 20480 = search needs in
+    let sizes : length (c .define .result .sizes) ≡ 128 = search needs in
+    let stores = stored-there (l .variables) _ _ _ _ bytes sizes (c .define .ensures) in
+    (w .high, omega (arith, w .few, l .inv .1), p .line-action .ensures .room ∙ l .inv .2, p .line-action .ensures .places ∙ l .inv .3, λ q a. turn-defined (l .inv .4 q a) w a (p .line-action .ensures) (l .inv .2) (l .inv .3) (c .before .before .before .before .before .before .before .before .before .before .before .before .before .before .before .count .given .1) (c .before .before .before .before .before .before .read-define .ensures) (c .before .before .before .before .place .given .1) stores)
 
 enum-known-count-2 : tie.Need-enum-known-count-2 Inv-loop μ-loop
 enum-known-count-2 c = search needs
@@ -127,8 +151,8 @@ slice-aggregate-global c = sym (c .before .before .before .before .line-action .
 global-requires : tie.Need-global-requires Inv-loop μ-loop
 global-requires c κs = search needs
 
-enum-known-outcome-2 : tie.Need-enum-known-outcome-2 Inv-loop μ-loop
-enum-known-outcome-2 c = search needs
+enum-known-outcome : tie.Need-enum-known-outcome Inv-loop μ-loop
+enum-known-outcome c = search needs
 
 refused-requires-3 : tie.Need-refused-requires-3 Inv-loop μ-loop
 refused-requires-3 c κs = search needs
@@ -138,10 +162,10 @@ returns-4 c =
     let p = c .before .before .before .before .before .before .before .before .before .before .before .before .before in
     let w = rw (p .before .before .before .before .before .before .before .before .before .before .end .given .1) at (p .before .before .before .before .before .before .before .before .before .before .before .before .control-end .ensures) in
     let l = p .before .before .before .before .before .before .before .before .before .before .before .before .before .before .loop in
-    record { gives = λ q a. refused-gives q _ _ (c .refused3 .ensures) (turn-global-fault (l .inv .4 q a) w a (p .line-action .ensures) (l .inv .2) (l .inv .3) (c .before .before .before .before .before .before .before .before .before .before .before .count2 .given .1) (c .before .before .before .before .global .ensures) (c .before .before .outcome2 .given .1)) }
+    record { gives = λ q a. refused-gives q _ _ (c .refused3 .ensures) (turn-global-fault (l .inv .4 q a) w a (p .line-action .ensures) (l .inv .2) (l .inv .3) (c .before .before .before .before .before .before .before .before .before .before .before .count2 .given .1) (c .before .before .before .before .global .ensures) (c .before .before .outcome .given .1)) }
 
-enum-told-4 : tie.Need-enum-told-4 Inv-loop μ-loop
-enum-told-4 c = search needs
+enum-told-3 : tie.Need-enum-told-3 Inv-loop μ-loop
+enum-told-3 c = search needs
 
 loop-less-3 : tie.Need-loop-less-3 Inv-loop μ-loop
 loop-less-3 c = let p = c .before .before .before .before .before .before .before .before .before .before .before .before in let w = rw (p .before .before .before .before .before .before .before .before .before .before .end .given .1) at (p .before .before .before .before .before .before .before .before .before .before .before .before .control-end .ensures) in omega (arith, w .low, w .high)
@@ -151,7 +175,7 @@ loop-again-3 c =
     let p = c .before .before .before .before .before .before .before .before .before .before .before .before in
     let w = rw (p .before .before .before .before .before .before .before .before .before .before .end .given .1) at (p .before .before .before .before .before .before .before .before .before .before .before .before .control-end .ensures) in
     let l = p .before .before .before .before .before .before .before .before .before .before .before .before .before .before .loop in
-    (w .high, omega (arith, w .few, l .inv .1), p .line-action .ensures .room ∙ l .inv .2, p .line-action .ensures .places ∙ l .inv .3, λ q a. turn-set (l .inv .4 q a) w a (p .line-action .ensures) (l .inv .2) (l .inv .3) (c .before .before .before .before .before .before .before .before .before .before .count2 .given .1) (c .before .before .before .global .ensures) (c .before .enum-told4 .given .1))
+    (w .high, omega (arith, w .few, l .inv .1), p .line-action .ensures .room ∙ l .inv .2, p .line-action .ensures .places ∙ l .inv .3, λ q a. turn-set (l .inv .4 q a) w a (p .line-action .ensures) (l .inv .2) (l .inv .3) (c .before .before .before .before .before .before .before .before .before .before .count2 .given .1) (c .before .before .before .global .ensures) (c .before .enum-told3 .given .1))
 
 enum-known-count-3 : tie.Need-enum-known-count-3 Inv-loop μ-loop
 enum-known-count-3 c = search needs
@@ -205,20 +229,26 @@ read-lines-spec =
     loop-less
     loop-again
     enum-known-count
-    define-line-requires
-    enum-known-outcome
+    slice-aggregate-read-define
+    read-define-requires
+    enum-known-cause-2
     refused-requires-2
     returns-3
-    enum-told-3
+    enum-known-place
+    array-share-prefix-name
+    slice-aggregate-define
+    array-share-prefix-value
+    slice-aggregate-define-2
+    define-requires
     loop-less-2
     loop-again-2
     enum-known-count-2
     slice-aggregate-global
     global-requires
-    enum-known-outcome-2
+    enum-known-outcome
     refused-requires-3
     returns-4
-    enum-told-4
+    enum-told-3
     loop-less-3
     loop-again-3
     enum-known-count-3
