@@ -85,7 +85,7 @@ settled b (fault (cut p)) = result (CutShort p) b
 settled b (value none) = result NoEntry b
 settled b (value (some d)) = resolved b (d .line) (d .verdict)
 
--- 11, then 12 (first such byte), then control lines in table order
+-- the length (11), the bytes (12), then what the lines give
 abbrev pub readBytes : List ℕ → Question → List ℕ → Acceptance → Outcome
 readBytes t q b Long = result LongTable b
 readBytes t q b (RefusedAt p) = result (RefusedByte p) b

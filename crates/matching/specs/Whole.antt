@@ -10,7 +10,7 @@ use Rattle.glob.specs.Match.{matches}
 use Rattle.pattern.specs.declared.Syntax.{Syntax}
 use Rattle.pattern.specs.Whole.{expansionsOf}
 
--- 01: a pattern matches exactly if one of its brace-free expansions does
+-- one of the expansions matches the whole name (01, patterns)
 unfoldable pub matchesSome : List (List ℕ) → List ℕ → Bool
 unfolding any matches
 matchesSome es s = any (λ e. matches e s) es
