@@ -1,4 +1,6 @@
 // The answer to a question from a table.
+#![tactic(auto)]
+
 pub mod call; // the whole call
 mod grant; // what is told and written beside a permit
 pub mod number; // the number of every answer
@@ -9,7 +11,7 @@ use options::span::Span;
 use options::timeout::Timeout;
 
 // What is told beside a permit. The path and the four ids are in the buffer.
-#[derive(Drop)]
+#[derive(Clone, Copy)]
 pub struct Granted {
     // The number of the deciding control line's first physical line.
     pub line: usize,
@@ -25,7 +27,7 @@ pub struct Granted {
     pub nargs: Span,
 }
 
-#[derive(Drop)]
+#[derive(Clone, Copy)]
 pub enum Answer {
     Permit(Granted),
     // Permit after password.

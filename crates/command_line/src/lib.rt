@@ -1,4 +1,6 @@
 // What the program's arguments ask for.
+#![tactic(auto)]
+
 mod operands; // what stands behind the options
 mod options; // the options, which stand first
 pub mod request; // what is asked for, or what is wrong

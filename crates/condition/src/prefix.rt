@@ -5,7 +5,7 @@ ghost use Rattle.condition.specs.Contract.{prefixed_in};
 
 use text::slice::starts_with;
 
-#[derive(Drop)]
+#[derive(Clone, Copy)]
 pub enum Asks {
     User,
     Group,

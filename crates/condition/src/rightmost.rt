@@ -4,7 +4,7 @@ ghost use Rattle.condition.specs.Rightmost.{judged};
 ghost use Rattle.condition.specs.Contract.{none_kept, added, says_or};
 
 // What is kept of the alternatives so far.
-#[derive(Drop)]
+#[derive(Clone, Copy)]
 pub struct Rightmost {
     // Whether one applied, and what the last of those says.
     pub applied: bool,

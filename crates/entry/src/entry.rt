@@ -23,7 +23,7 @@ use question::WeekMinute;
 use text::slice::{Found, equal, find_pair};
 
 // What is kept of the fields so far.
-#[derive(Drop)]
+#[derive(Clone, Copy)]
 pub struct Entry {
     position: Position,
     // Whether the command pattern that waits for its path matches.

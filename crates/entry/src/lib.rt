@@ -1,4 +1,6 @@
 // Entries: their conditions, command patterns and path, and what the deciding one answers.
+#![tactic(auto)]
+
 pub mod entry; // an entry, field by field
 pub mod own; // the options and argument patterns of the deciding entry
 mod pair; // a command pattern and its path

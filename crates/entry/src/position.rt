@@ -7,7 +7,7 @@ ghost use Rattle.entry.specs.Contract.{kind_by, behind, is_other};
 use text::slice::{Found, find_pair};
 
 // Where a field stands.
-#[derive(Drop)]
+#[derive(Clone, Copy)]
 pub enum Position {
     First,
     // Behind CmdPat.
@@ -19,7 +19,7 @@ pub enum Position {
 }
 
 // What a field is.
-#[derive(Drop)]
+#[derive(Clone, Copy)]
 pub enum FieldKind {
     // A pair with its first `::` at this byte.
     Pair(usize),

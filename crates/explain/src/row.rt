@@ -10,7 +10,7 @@ use text::class::{Class, class_of};
 use text::slice::byte_from;
 
 // Where a byte is printed.
-#[derive(Drop)]
+#[derive(Clone, Copy)]
 pub enum Row {
     // In the physical line.
     Line,

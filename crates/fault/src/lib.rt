@@ -1,9 +1,11 @@
 // The causes for which a control line is refused, and the number told for each.
+#![tactic(auto)]
+
 ghost use Rattle.std.specs.Prelude.{◌≡◌};
 ghost use Rattle.fault.specs.Fault.{number_of};
 ghost use Rattle.fault.specs.Contract.{IndexOf};
 
-#[derive(Drop)]
+#[derive(Clone, Copy)]
 pub enum Cause {
     // The joined line is too long.
     LineLength,

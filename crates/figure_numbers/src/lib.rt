@@ -1,4 +1,6 @@
 // Figures as 64 numbers in a lent slice, for callers that cannot hold a struct of arrays (include/supertab.h).
+#![tactic(auto)]
+
 mod from_numbers; // the figures that 64 numbers say
 pub mod lent; // the two calls on lent numbers
 mod to_numbers; // the 64 numbers of figures

@@ -1,4 +1,6 @@
 // Monthly figures of log records, fed in batches.
+#![tactic(auto)]
+
 ghost use Rattle.std.specs.Prelude.{◌≡◌};
 ghost use Rattle.figures.specs.Feed.{feed_told};
 
@@ -8,7 +10,7 @@ pub mod feed; // batches of records
 pub mod report; // the figures one by one
 
 // The figures of the records so far.
-#[derive(Drop)]
+#[derive(Clone, Copy)]
 pub struct Figures {
     // How many records have each answer number.
     pub answers: [u32; Figures::ANSWERS],
@@ -40,7 +42,7 @@ impl Figures {
 }
 
 // What is answered to a batch.
-#[derive(Drop)]
+#[derive(Clone, Copy)]
 pub enum Feeding {
     Taken,
     // The bytes are no whole records; the figures are as they were.

@@ -6,7 +6,7 @@ ghost use Rattle.line.specs.Contract.{mode_of};
 use text::class::{is_blank, is_word_byte};
 use text::quote::{Quoting, quoting_after};
 
-#[derive(Drop)]
+#[derive(Clone, Copy)]
 pub enum ScanMode {
     // Among the fields.
     Fields(Quoting),

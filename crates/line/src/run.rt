@@ -5,7 +5,7 @@ ghost use Rattle.line.specs.Contract.{in_run};
 
 use text::class::is_blank;
 
-#[derive(Drop)]
+#[derive(Clone, Copy)]
 pub enum Run {
     Blanks,
     // Bytes of a field outside quotes: above the quotes, and no backslash.

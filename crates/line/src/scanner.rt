@@ -12,7 +12,7 @@ use text::class::is_blank;
 use text::quote::Quoting;
 use text::slice::byte_from;
 
-#[derive(Drop)]
+#[derive(Clone, Copy)]
 pub struct Scanner {
     // The place of the next byte.
     pub at: usize,

@@ -1,4 +1,6 @@
 // The log of the program: the file that records are appended to.
+#![tactic(auto)]
+
 pub mod appended; // what was handed to the file
 pub mod file; // the log and its records that wait
 pub mod opening; // the file looked at before it is opened for appending

@@ -7,7 +7,7 @@ ghost use Rattle.matching.specs.Contract.{PartsFrom, Simple, SimpleName, TellsAl
 use text::slice::{Found, find_byte};
 
 // Whether the next byte is free, behind a backslash, or in a set.
-#[derive(Drop)]
+#[derive(Clone, Copy)]
 pub enum ByteContext {
     Free,
     Escaped,

@@ -12,7 +12,7 @@ use pattern::Syntax;
 use question::strings::string_end;
 
 // Which positions fail; the entry's own patterns are added to those in force globally.
-#[derive(Drop)]
+#[derive(Clone, Copy)]
 pub struct Failures {
     at: [bool; Failures::POSITIONS],
 }

@@ -11,7 +11,7 @@ use text::number::at_most;
 use text::slice::{all_name_bytes, equal};
 
 // A name that is set or not: the first bytes of the array.
-#[derive(Drop)]
+#[derive(Clone, Copy)]
 pub struct IdName {
     bytes: [u8; IdName::BYTES],
     size: usize,

@@ -1,4 +1,6 @@
 // Options: one from a field's text, a set of them laid over another, and what they allow.
+#![tactic(auto)]
+
 ghost use Rattle.std.specs.Prelude.{◌≡◌, []};
 ghost use Rattle.options.specs.Read.{set_id};
 
@@ -12,7 +14,7 @@ pub mod span; // ranges of numbers
 pub mod timeout; // the value of a timeout
 
 // The options that name a user or a group.
-#[derive(Drop)]
+#[derive(Clone, Copy)]
 pub enum Id {
     Uid,
     Euid,

@@ -5,7 +5,7 @@ ghost use Rattle.options.specs.Contract.{setting_in, line_of, noted};
 use super::setting::OptionSetting;
 
 // The options of a line, by their numbers, and whether one of them stands twice; argument patterns may.
-#[derive(Drop)]
+#[derive(Clone, Copy)]
 pub struct LineOptions {
     stands: [bool; LineOptions::OPTIONS],
     twice: bool,

@@ -13,7 +13,7 @@ use super::timeout::Timeout;
 use question::LastAuthentication;
 use question::password::password_needed;
 
-#[derive(Drop)]
+#[derive(Clone, Copy)]
 pub enum Auth {
     Unset,
     Yes,
@@ -49,7 +49,7 @@ impl Auth {
     }
 }
 
-#[derive(Drop)]
+#[derive(Clone, Copy)]
 pub struct OptionSet {
     uid: IdName,
     euid: IdName,

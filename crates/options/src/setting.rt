@@ -8,7 +8,7 @@ use super::span::Span;
 use super::timeout::Timeout;
 
 // The bytes of an id or of a pattern are the value in the option's text.
-#[derive(Drop)]
+#[derive(Clone, Copy)]
 pub enum OptionSetting {
     SetId(Id),
     SetAuth(bool),

@@ -11,7 +11,7 @@ use text::number::{Number, decimal};
 use text::slice::{Found, find_byte};
 
 // From one number to another, both counted, or no range.
-#[derive(Drop)]
+#[derive(Clone, Copy)]
 pub enum Span {
     Nothing,
     Between(usize, usize),

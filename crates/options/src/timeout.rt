@@ -13,7 +13,7 @@ use text::number::{Number, decimal};
 use text::slice::starts_with;
 
 // Minutes, or no timeout.
-#[derive(Drop)]
+#[derive(Clone, Copy)]
 pub enum Timeout {
     Unset,
     Minutes(i32),

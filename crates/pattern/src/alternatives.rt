@@ -11,7 +11,7 @@ use super::{Pattern, Syntax};
 use text::buffer::Filled;
 
 // What stands where an alternative begins.
-#[derive(Drop)]
+#[derive(Clone, Copy)]
 pub enum Alternative {
     // No brace up to this place, where it ends: it is its own only expansion.
     Flat(usize),

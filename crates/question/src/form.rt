@@ -82,7 +82,7 @@ pub fn argument_is_good(s: &[u8]) -> bool
 }
 
 // What a list of zero-ended strings holds.
-#[derive(Drop)]
+#[derive(Clone, Copy)]
 pub enum Listed {
     Groups,
     Arguments,

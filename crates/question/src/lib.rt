@@ -1,4 +1,6 @@
 // The question: its types with their limits, and whether one is as document 01 wants it.
+#![tactic(auto)]
+
 pub mod form; // whether a question is good
 pub mod password; // whether a password is needed
 pub mod strings; // zero-ended strings, one after the other
@@ -58,7 +60,7 @@ impl Arguments {
 }
 
 // A minute of the week; Monday 0:00 is 0. It is never added to an age or compared with one.
-#[derive(Drop)]
+#[derive(Clone, Copy)]
 pub struct WeekMinute(pub u16);
 
 impl WeekMinute {
@@ -67,11 +69,11 @@ impl WeekMinute {
 }
 
 // Minutes of age, below zero where the clock went back.
-#[derive(Drop)]
+#[derive(Clone, Copy)]
 pub struct Age(pub i32);
 
 // When the user last gave a password.
-#[derive(Drop)]
+#[derive(Clone, Copy)]
 pub enum LastAuthentication {
     Never,
     Minutes(Age),

@@ -19,7 +19,7 @@ use variables::Variables;
 use variables::field::{FieldText, field_text};
 
 // What comes of the fields so far.
-#[derive(Drop)]
+#[derive(Clone, Copy)]
 pub enum GlobalOutcome {
     Good,
     Fault(Cause),

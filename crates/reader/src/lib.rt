@@ -1,4 +1,6 @@
 // One control line, from the old state to the new.
+#![tactic(auto)]
+
 pub mod control_line; // what a control line does
 mod conditional; // whether the rest of an `:if` is taken
 pub mod define; // the name and the text of a `:define`, and where it goes

@@ -1,4 +1,6 @@
 // Eight bytes for each decision: what is stored, how a record is written, and how it is read.
+#![tactic(auto)]
+
 ghost use Rattle.std.specs.Prelude.{◌≡◌};
 ghost use Rattle.record.specs.Contract.{bytes_written};
 ghost use Rattle.record.specs.Read.{record_told};

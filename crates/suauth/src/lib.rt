@@ -1,4 +1,6 @@
 // The answer to a question from a su file.
+#![tactic(auto)]
+
 mod ids; // one side of a rule
 mod lines; // all lines of a file
 mod names; // a list of names

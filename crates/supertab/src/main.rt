@@ -1,4 +1,6 @@
 // The program: answers question lines from a table or a su file, checks one, keeps a log, prints one and its figures.
+#![tactic(auto)]
+
 mod logging; // answers with a log, and what is printed of one
 
 use checker::file::{file_buffer, load};

@@ -1,4 +1,6 @@
 // The calls for C and for whoever calls by C's ABI (include/supertab.h): numbers and lent slices in, a number out.
+#![tactic(auto)]
+
 mod asked; // a minute and an age as a caller in C gives them
 pub mod call; // the answer to a question
 pub mod log_figures; // the two calls on figures of log records

@@ -1,4 +1,6 @@
 // The control lines of a table, one after the other: the first fault, a line that is cut, or the decision.
+#![tactic(auto)]
+
 mod action; // what one line does
 pub mod lines; // the loop over the lines
 

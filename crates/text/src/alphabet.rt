@@ -6,7 +6,7 @@ ghost use Rattle.text.specs.Contract.{in_alphabet};
 use super::class::{is_command_byte, is_name_byte, is_printable, is_word_byte};
 
 // The bytes that a kind of text is made of.
-#[derive(Drop)]
+#[derive(Clone, Copy)]
 pub enum Alphabet {
     // Letters, digits, `.`, `_`, `-`: users, groups and hosts.
     Name,

@@ -5,7 +5,7 @@ ghost use Rattle.text.specs.Contract.{Wrote};
 use super::number::at_most;
 
 // How far the buffer is filled.
-#[derive(Drop)]
+#[derive(Clone, Copy)]
 pub enum Filled {
     // The place after the last byte.
     Done(usize),

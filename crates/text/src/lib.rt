@@ -1,4 +1,6 @@
 // Bytes and slices: what every layer above shares.
+#![tactic(auto)]
+
 pub mod alphabet; // which bytes a text may hold
 pub mod buffer; // bytes put into a lent buffer
 pub mod case; // a letter in its other case

@@ -3,7 +3,7 @@ ghost use Rattle.std.specs.Prelude.{◌≡◌};
 ghost use Rattle.text.specs.Quote.{quoting_after};
 
 // Where a byte stands: outside quotes, or inside a kind of them.
-#[derive(Drop)]
+#[derive(Clone, Copy)]
 pub enum Quoting {
     Outside,
     Single,

@@ -1,4 +1,6 @@
 // Time conditions: time items, the day names, and the rule over several items.
+#![tactic(auto)]
+
 pub mod clock; // clock times
 pub mod day; // day names
 pub mod item; // time items, and the minutes that they match
