@@ -10,8 +10,8 @@ use Rattle.text.proofs.Laws.{clash, false_of}
 use Rattle.streams.specs.Contract.{counted_on, Prints}
 use Rattle.streams.proofs.CountLaws.{counted_none, counted_twice}
 use Rattle.streams.specs.declared.standard_output.Output.{Output}
-use Rattle.log.specs.declared.file.Log.{Log}
-use Rattle.log.specs.Appending.{Waits, Appends}
+use Rattle.record_log.specs.declared.file.Log.{Log}
+use Rattle.record_log.specs.Appending.{Waits, Appends}
 use Rattle.responder.specs.declared.lines.Run.{Run}
 use Rattle.responder.specs.Contract.{Logs, Counted, halted}
 

@@ -1,8 +1,8 @@
 // Answers with a log, and what is printed of one.
 use checker::file::{file_buffer, load_argument};
 use libc::STDIN_FILENO;
-use log::file::Log;
-use log::opening::open;
+use record_log::file::Log;
+use record_log::opening::open;
 use log_text::show::show;
 use responder::lines::answer_lines;
 use responder::source::Source;

@@ -7,7 +7,7 @@ use checker::file::{file_buffer, load};
 use checker::{su, table};
 use command_line::request::{Arguments, Misuse, Request};
 use command_line::uses::requested;
-use log::file::Log;
+use record_log::file::Log;
 use logging::LogView;
 use responder::lines::answer_lines;
 use responder::source::Source;
