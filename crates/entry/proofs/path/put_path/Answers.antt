@@ -1,0 +1,53 @@
+use mathlib.Core.Path.{refl, ◌∙◌}
+use mathlib.Core.Logic.{inl, inr}
+use Prim.Native.Nat.{◌-◌}
+use native.Mathlib.Omega.{arith}
+use borrow.Author.Tests.{eq-eqb, ne_eqb}
+use Rattle.text.specs.Contract.{Wrote}
+use Rattle.text.proofs.Buffers.{wrote_length, wrote_done, wrote_then, wrote_full, wrote_as, wrote_none}
+use Rattle.entry.proofs.PathLaws.{piece, starred_next, starred_end}
+use Rattle.entry.proofs.path.put_path.Goals as goal
+
+-- where the two arms meet: the byte's piece was written
+part : (c : tie.Joined1 invariant-loop decreases-loop) → (let l = c.before.before.before.loop in let a = c.before.before.before.before.before.before.before.args in Wrote l.out c.if1.out l.m (piece a.command.now a.path.now l.i) c.if1.p)
+part c =
+    elim c.if1.branch [
+      | inl w ↦ rw (w.5, w.6, eq-eqb _ _ w.0.taken) w.2.ensures
+      | inr w ↦ rw (w.5, w.6, ne_eqb _ _ w.0.left) w.2.ensures
+    ]
+
+pub loop-i-init : goal.loop-i-init
+loop-i-init c = (omega arith, omega arith, refl, λ new q v. v)
+
+pub bounds-path-i : goal.bounds-path-i
+bounds-path-i c = omega arith
+
+pub shape_of-out-in_default : goal.shape_of-out-in_default
+shape_of-out-in_default c = omega (arith, wrote_length (part c.before.before))
+
+pub returns-in_default : goal.returns-in_default
+returns-in_default c = let l = c.loop-i in
+    let h = c.loop-i-test.true in
+    l.invariant.3 _ _ (wrote_as (wrote_full (part c.before.before) c.in_default.is _) (starred_next _ _ _ h))
+
+pub overflow_add-i : goal.overflow_add-i
+overflow_add-i c = omega arith
+
+pub loop-i-smaller : goal.loop-i-smaller
+loop-i-smaller c = omega arith
+
+pub loop-i-preserved : goal.loop-i-preserved
+loop-i-preserved c = let l = c.loop-i in
+    let h = c.loop-i-test.true in
+    let p = part c.before.before.before in
+    let e = c.in-Done.is in
+    let d = wrote_done p e in
+    let k = wrote_length p in
+    (omega arith, omega (arith, d.0), k ∙ l.invariant.2, λ new q v. l.invariant.3 new q (wrote_as (wrote_then p e v) (starred_next _ _ _ h)))
+
+pub shape_of-out : goal.shape_of-out
+shape_of-out c = omega arith
+
+pub returns : goal.returns
+returns c = let l = c.loop-i in
+    l.invariant.3 _ _ (wrote_as (wrote_none _ _ (omega arith)) (starred_end _ _ _ c.loop-i-test.false))

@@ -1,0 +1,17 @@
+use native.Mathlib.Omega.{arith}
+use Rattle.reader.specs.Colon.{operator_of}
+use Rattle.variables.proofs.TextLaws.{text_kept, text_fault, text_value, text_room, text_length}
+use Rattle.fault.proofs.Readings.{then_fault, then_value}
+use Rattle.reader.proofs.conditional.operator_of.Goals as goal
+
+pub slice_bounds-scratch-end : goal.slice_bounds-scratch-end
+slice_bounds-scratch-end c = text_room c.field_text.ensures c.in-Text.is (omega arith)
+
+pub slice_bounds-operator_in-end : goal.slice_bounds-operator_in-end
+slice_bounds-operator_in-end c = let u = c.field_text.ensures in text_length u c.in-Text.is (omega (arith, text_kept u))
+
+pub returns-in-Fault : goal.returns-in-Fault
+returns-in-Fault c = then_fault operator_of (text_fault c.field_text.ensures c.in-Fault.is)
+
+pub returns-in-Text : goal.returns-in-Text
+returns-in-Text c = then_value operator_of (text_value c.field_text.ensures c.in-Text.is) c.operator_in.ensures

@@ -1,0 +1,9 @@
+use mathlib.Core.Path.{sym, ap, ◌∙◌}
+use mathlib.Core.List.{append-nil}
+use Rattle.options.specs.Read.{options_of, arguments_of}
+use Rattle.options.specs.Contract.{failures}
+use Rattle.reader.proofs.global.GlobalRead.new.Goals as goal
+
+pub returns : goal.returns
+unfolding options_of arguments_of
+returns c = λ ps xs h. record { options = c.new.ensures; failures = h ∙ ap (λ l. failures l xs) (sym (append-nil ps)); line = c.new-2.ensures }

@@ -1,0 +1,31 @@
+use mathlib.Core.Path.{◌∙◌}
+use native.Mathlib.Omega.{arith}
+use Rattle.text.proofs.Buffers.{wrote_length}
+use Rattle.su_console.proofs.PieceLaws.{few_pieces, more_pieces, three_pieces, groups_fit, groups_put}
+use Rattle.su_console.proofs.question_line.read_pieces.Goals as goal
+
+pub returns-then-user-line : goal.returns-then-user-line
+returns-then-user-line c = let p = c.requires in record { size = p.1; asks = few_pieces _ _ _ c.piece_end-target.ensures.0 c.piece_end-user.ensures.0 c.if-user-line.true; placed = tt }
+
+pub returns-then-piece_end-line : goal.returns-then-piece_end-line
+returns-then-piece_end-line c = let p = c.requires in
+    record { size = p.1; asks = more_pieces _ _ _ c.piece_end-target.ensures.0 c.piece_end-user.ensures.0 c.if-user-line.false _ c.piece_end.ensures.0 c.if-piece_end-line.true; placed = tt }
+
+pub returns-in_default : goal.returns-in_default
+returns-in_default c = let p = c.requires in
+    let s = c.args.line.now in
+    absurd (groups_fit s _ c.if-user-line.false p.0 p.1 c.put_groups.ensures c.in_default.is)
+
+pub returns : goal.returns
+returns c = let p = c.requires in
+    let h = c.if-user-line.false in
+    let w = c.put_groups.ensures in
+    let s = c.args.line.now in
+    let g = groups_put s _ h p.0 p.1 w c.in-Done.is in
+    let a = c.piece_end-target.ensures in
+    let b = c.piece_end-user.ensures in
+    record {
+      size = wrote_length w ∙ p.1;
+      asks = three_pieces _ _ _ a.0 b.0 h _ c.piece_end.ensures.0 c.if-piece_end-line.false _ g.1;
+      placed = (omega (arith, b.1), h, g.0);
+    }
