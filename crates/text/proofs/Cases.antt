@@ -50,9 +50,13 @@ lower_name b = by-capital (λ n. name_byte b ≡ name_byte n) b small refl
 -- names that differ in case only are equally long, and both of a name's bytes or neither
 pub alike_length : (s t : List ℕ) → Alike s t → length s ≡ length t
 alike_length [] [] ends = refl
+alike_length [] (c ∷ t) w = elim w [ ]
+alike_length (b ∷ s) [] w = elim w [ ]
 alike_length (b ∷ s) (c ∷ t) (goes e w) = rw (alike_length s t w)
 
 pub alike_names : (s t : List ℕ) → Alike s t → all name_byte s ≡ all name_byte t
 unfolding all
 alike_names [] [] ends = refl
+alike_names [] (c ∷ t) w = elim w [ ]
+alike_names (b ∷ s) [] w = elim w [ ]
 alike_names (b ∷ s) (c ∷ t) (goes e w) = rw (lower_name b ∙ ap name_byte e ∙ sym (lower_name c), alike_names s t w)

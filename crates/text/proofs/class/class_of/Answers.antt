@@ -38,4 +38,4 @@ returns-in-7 c = class_at c.args.b 7 (search rules) c.in-7.is
 
 pub returns-in_default : goal.returns-in_default
 unfolding codes class_of blank letter digit printable
-returns-in_default c = let r = c.in_default.rest in class_rest c.args.b _ (search rules) refl r.0.0.0.0.0.0.0.1 r.0.0.0.0.0.0.1 r.0.0.0.0.0.1 r.0.0.0.0.1 r.0.0.0.1 r.0.0.1 r.0.1 r.1
+returns-in_default c = let r = c.in_default.in_default-own.rest in class_rest c.args.b _ (search rules) refl r.0.0.0.0.0.0.0.1 r.0.0.0.0.0.0.1 r.0.0.0.0.0.1 r.0.0.0.0.1 r.0.0.0.1 r.0.0.1 r.0.1 r.1
