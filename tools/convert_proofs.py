@@ -41,6 +41,11 @@ def convert(path):
         needs[alike(old)] = (new, at)
     for (old, new), at in zip(N["needs"], N["asked_at"]):
         needs.setdefault("overflow" + alike(old), (new, at))
+        if old.startswith("part-"):
+            needs.setdefault("slicebounds" + alike(old[5:]), (new, at))
+        for a, b in (("element_copy_out", "array_read"), ("element_copy_out", "slice_read"), ("shared_slice_read", "array_read"), ("array_read", "shared_slice_read"), ("slice_read", "array_read"), ("index", "array_read")):
+            if old.startswith(a + "-"):
+                needs.setdefault(alike(b) + alike(old[len(a) + 1 :]), (new, at))
     places = {p[0]: p for p in N["places"]}
     armof = {p[0]: a for p, a in zip(N["places"], N["arms"])}
     loops = {}

@@ -9,8 +9,14 @@ returns-in_default c = clock_alone c.args.s.now _ c.find_byte.ensures c.in_defau
 pub overflow_add-after : goal.overflow_add-after
 overflow_add-after c = let h = found_within 58 c.args.s.now _ c.find_byte.ensures c.in-At.is in omega (arith, h)
 
+pub slice_bounds-read_hour-end : goal.slice_bounds-read_hour-end
+slice_bounds-read_hour-end c = let h = found_within 58 c.args.s.now _ c.find_byte.ensures c.in-At.is in omega (arith, h)
+
 pub slice_bounds-read_minute-count : goal.slice_bounds-read_minute-count
 slice_bounds-read_minute-count c = let h = found_within 58 c.args.s.now _ c.find_byte.ensures c.in-At.is in omega (arith, h)
+
+pub slice_bounds-read_minute-start : goal.slice_bounds-read_minute-start
+slice_bounds-read_minute-start c = let h = found_within 58 c.args.s.now _ c.find_byte.ensures c.in-At.is in omega (arith, h)
 
 pub returns : goal.returns
 returns c = clock_parts_law c.args.s.now _ c.find_byte.ensures c.in-At.is c.read_hour-2.ensures c.read_minute.ensures c.clock_at-2.ensures
