@@ -1,4 +1,3 @@
-use Prim.Native.Nat.{◌-◌}
 use native.Mathlib.Omega.{arith}
 use Rattle.line.proofs.Search.{starts, cut_from, ends_first, ends_plain, goes_past, ends_cut}
 use Rattle.line.proofs.ends.control_end.Goals as goal
