@@ -1,4 +1,3 @@
-use Prim.Native.Nat.{◌-◌}
 use native.Mathlib.Omega.{arith}
 use Rattle.line.proofs.Search.{starts, cut_from, ends_first, ends_plain, goes_past, ends_cut}
 use Rattle.line.proofs.ends.control_end.Goals as goal
@@ -27,14 +26,14 @@ overflow_sub-at c = omega (arith, c.next_byte-at.ensures.low, c.loop-i.invariant
 pub bounds-table-at : goal.bounds-table-at
 bounds-table-at c = omega (arith, c.next_byte-at.ensures.high)
 
-pub overflow_add-result-then-table-at-ne92 : goal.overflow_add-result-then-table-at-ne92
-overflow_add-result-then-table-at-ne92 c = omega (arith, c.next_byte-at.ensures.high)
+pub overflow_add-result-then-table-at-ne-BACKSLASH : goal.overflow_add-result-then-table-at-ne-BACKSLASH
+overflow_add-result-then-table-at-ne-BACKSLASH c = omega (arith, c.next_byte-at.ensures.high)
 
-pub overflow_add-result-then-table-at-ne92-2 : goal.overflow_add-result-then-table-at-ne92-2
-overflow_add-result-then-table-at-ne92-2 c = omega (arith, c.next_byte-at.ensures.high, c.next_byte-at.ensures.low, c.loop-i.invariant.few)
+pub overflow_add-result-then-table-at-ne-BACKSLASH-2 : goal.overflow_add-result-then-table-at-ne-BACKSLASH-2
+overflow_add-result-then-table-at-ne-BACKSLASH-2 c = omega (arith, c.next_byte-at.ensures.high, c.next_byte-at.ensures.low, c.loop-i.invariant.few)
 
-pub returns-then-table-at-ne92 : goal.returns-then-table-at-ne92
-returns-then-table-at-ne92 c = ends_plain c.loop-i.invariant c.next_byte-at.ensures c.if-at-table.false c.if-at-from.false c.if-table-at-ne92.true
+pub returns-then-table-at-ne-BACKSLASH : goal.returns-then-table-at-ne-BACKSLASH
+returns-then-table-at-ne-BACKSLASH c = ends_plain c.loop-i.invariant c.next_byte-at.ensures c.if-at-table.false c.if-at-from.false c.if-table-at-ne-BACKSLASH.true
 
 pub overflow_add-count : goal.overflow_add-count
 overflow_add-count c = omega (arith, c.next_byte-at.ensures.high, c.next_byte-at.ensures.low, c.loop-i.invariant.few)
@@ -46,7 +45,7 @@ pub loop-i-smaller : goal.loop-i-smaller
 loop-i-smaller c = omega (arith, c.next_byte-at.ensures.low)
 
 pub loop-i-preserved : goal.loop-i-preserved
-loop-i-preserved c = goes_past c.loop-i.invariant c.next_byte-at.ensures c.if-at-table.false c.if-at-from.false c.if-table-at-ne92.false
+loop-i-preserved c = goes_past c.loop-i.invariant c.next_byte-at.ensures c.if-at-table.false c.if-at-from.false c.if-table-at-ne-BACKSLASH.false
 
 pub returns : goal.returns
 returns c = ends_cut c.loop-i.invariant c.loop-i-test.false

@@ -1,7 +1,5 @@
 use mathlib.Core.Path.{sym, ◌∙◌}
-use Prim.Native.Nat.{◌-◌}
 use native.Mathlib.Omega.{arith}
-use borrow.Author.Tests.{not-true, not-false}
 use Rattle.line.proofs.RefusedLaws.{refused_whole, refused_on, refused_hit, refused_end, accepted_all}
 use Rattle.line.proofs.refused.refused_byte.Goals as goal
 
@@ -15,7 +13,7 @@ pub bounds-table-i : goal.bounds-table-i
 bounds-table-i c = omega arith
 
 pub returns-then-not-is_accepted : goal.returns-then-not-is_accepted
-returns-then-not-is_accepted c = refused_hit _ _ c.loop-i-test.true (sym c.is_accepted.ensures ∙ not-true _ c.if-not-is_accepted.true-raw) ∙ c.loop-i.invariant.1
+returns-then-not-is_accepted c = refused_hit _ _ c.loop-i-test.true (sym c.is_accepted.ensures ∙ c.if-not-is_accepted.true) ∙ c.loop-i.invariant.1
 
 pub overflow_add-i : goal.overflow_add-i
 overflow_add-i c = omega arith
@@ -24,7 +22,7 @@ pub loop-i-smaller : goal.loop-i-smaller
 loop-i-smaller c = omega arith
 
 pub loop-i-preserved : goal.loop-i-preserved
-loop-i-preserved c = (omega arith, refused_on _ _ c.loop-i-test.true (sym c.is_accepted.ensures ∙ not-false _ c.if-not-is_accepted.false-raw) ∙ c.loop-i.invariant.1)
+loop-i-preserved c = (omega arith, refused_on _ _ c.loop-i-test.true (sym c.is_accepted.ensures ∙ c.if-not-is_accepted.false) ∙ c.loop-i.invariant.1)
 
 pub returns : goal.returns
 returns c = refused_end _ c.loop-i.i c.loop-i-test.false ∙ c.loop-i.invariant.1

@@ -1,7 +1,6 @@
 use Rattle.line.proofs.ScannerLaws.{goes_then, few_more}
 use Rattle.line.proofs.ScanLaws.{starts, scans, first_blank}
 use native.Mathlib.Omega.{arith}
-use Prim.Native.Nat.{◌-◌}
 use Rattle.line.proofs.scan.scan_line.Goals as goal
 
 pub loop-scanner-init : goal.loop-scanner-init

@@ -1,4 +1,3 @@
-use Prim.Native.Nat.{◌-◌}
 use native.Mathlib.Omega.{arith}
 use Rattle.line.proofs.WholeLaws.{last_start, last_on, last_cut, last_done}
 use Rattle.line.proofs.whole.last_end.Goals as goal

@@ -1,6 +1,7 @@
 use Rattle.line.proofs.ProgressLaws.{closed_joined, parted}
 use Rattle.line.specs.Contract.{Progress}
 use native.Mathlib.Omega.{arith}
+use mathlib.Core.List.{[]}
 use mathlib.Core.Path.{ap, ◌∙◌}
 use Rattle.line.proofs.counts.Counts.part.Goals as goal
 
