@@ -238,12 +238,7 @@ fn open_looked_at<R: Files<File = File>>(
 
 // The log of this name, for the answers of a table. One that cannot be opened, or is no log, is told and is not appended to.
 // A pipe is not opened, since that may wait for ever.
-pub fn open<R: Files<File = File>>(
-    rt: &R,
-    streams: Streams,
-    name: &[u8],
-    table: Identity,
-) -> Log
+pub fn open<R: Files<File = File>>(rt: &R, streams: Streams, name: &[u8], table: Identity) -> Log
     ensures { result.waiting ≡ 0 }
 {
     if is_special(rt, name) {

@@ -3,11 +3,10 @@ ghost use Rattle.std.specs.Prelude.{◌≡◌, false};
 ghost use Rattle.streams.specs.Contract.{regular_mode, same_file};
 
 use super::name::path_of;
-use std::fs;
 use std::fs::{File, Metadata};
-use std::io;
 use std::os::unix::fs::MetadataExt;
 use std::rt::Files;
+use std::{fs, io};
 
 // The kind of a file is one of sixteen in its mode, above twelve bits of permissions.
 const KINDS: u32 = 16;

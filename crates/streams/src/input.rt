@@ -118,13 +118,7 @@ fn no_name(why: FillError) -> Error {
 }
 
 // The name that an argument gives to a file; one that is longer than the buffer is told, by what it is the name of.
-pub fn load_name<R: Env>(
-    rt: &R,
-    errors: Stderr,
-    i: usize,
-    what: &[u8],
-    out: &mut [u8],
-) -> Loaded
+pub fn load_name<R: Env>(rt: &R, errors: Stderr, i: usize, what: &[u8], out: &mut [u8]) -> Loaded
     ensures { LoadedIn out.new result }
 {
     match rt.arg(i, out) {

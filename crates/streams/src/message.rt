@@ -112,14 +112,7 @@ pub fn tell_of<R: Env>(rt: &R, errors: Stderr, i: usize, words: &[u8]) {
 }
 
 // What is wrong with an argument beside another one, which stands between the words and the rest of them.
-pub fn tell_of_both<R: Env>(
-    rt: &R,
-    errors: Stderr,
-    i: usize,
-    words: &[u8],
-    j: usize,
-    rest: &[u8],
-) {
+pub fn tell_of_both<R: Env>(rt: &R, errors: Stderr, i: usize, words: &[u8], j: usize, rest: &[u8]) {
     let mut one = buffer();
     let mut other = buffer();
     let n = argument(rt, i, &mut one);
