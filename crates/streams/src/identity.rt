@@ -40,6 +40,7 @@ impl Identity {
     }
 
     // Whether both are one regular file.
+    #[tactic(auto, unfolding(crate::specs::Contract::same_file))]
     pub fn is_same(self, other: Identity) -> bool
         ensures { result ≡ same_file self other }
     {
@@ -49,6 +50,7 @@ impl Identity {
 }
 
 // Whether a mode is that of a regular file.
+#[tactic(auto, unfolding(crate::specs::Contract::regular_mode))]
 fn is_regular_mode(mode: u32) -> bool
     ensures { result ≡ regular_mode mode }
 {

@@ -17,6 +17,7 @@ pub struct Output {
 }
 
 // A count with so many more; it stays at the largest number, which no run comes to.
+#[tactic(auto, unfolding(crate::specs::Contract::counted_on))]
 pub fn count_on(count: u64, more: usize) -> u64
     ensures { result ≡ counted_on count more }
 {
