@@ -8,35 +8,41 @@ ghost use Rattle.checker.specs.Contract.{Reports};
 
 use super::file::{file_buffer, load_named};
 use super::report::{print_filled, report_buffer};
+use std::fs::File;
+use std::io::Stderr;
+use std::rt::{Env, Files};
+use streams::buffers::buffer;
 use streams::input::{Loaded, load_name};
+use streams::standard::Streams;
 use streams::standard_output::Output;
 use su_console::report::explain_su;
 use suauth::su_answer;
 
 // Asks the file a question, and hands on what was found in it: it is good or not whatever is asked.
-fn print_report(output: Output, name: &[u8], file: &[u8]) -> Output
+fn print_report(errors: Stderr, output: Output, name: &[u8], file: &[u8]) -> Output
     ensures { Reports (su_explained name.now file.now (answer_of file.now (asking (bytes "root") (bytes "root") []))) output result }
 {
     let mut out = report_buffer();
     let answer = su_answer(file, b"root", b"root", b"");
     let filled = explain_su(name, file, answer, &mut out);
-    print_filled(output, filled, &out)
+    print_filled(errors, output, filled, &out)
 }
 
 // Checks the file of this name.
-fn check_named(name: &[u8]) {
+fn check_named<R: Files<File = File>>(rt: &R, streams: Streams, name: &[u8]) {
     let mut file = file_buffer();
-    let Loaded::Bytes(n) = load_named(name, &mut file) else {
+    let Loaded::Bytes(n) = load_named(rt, streams, name, &mut file) else {
         return;
     };
-    print_report(Output::new(), name, &file[..n]);
+    print_report(streams.errors, Output::new(streams), name, &file[..n]);
 }
 
 // Checks the su file that an argument names.
-pub fn check(i: usize) {
-    let mut name = io::buffer();
-    let Loaded::Bytes(n) = load_name(i, b"the name of the su file", &mut name) else {
+pub fn check<R: Env + Files<File = File>>(rt: &R, streams: Streams, i: usize) {
+    let mut name = buffer();
+    let Loaded::Bytes(n) = load_name(rt, streams.errors, i, b"the name of the su file", &mut name)
+    else {
         return;
     };
-    check_named(&name[..n]);
+    check_named(rt, streams, &name[..n]);
 }

@@ -10,9 +10,14 @@ use answer::Answer;
 use console::question_line::QuestionLine;
 use console::respond::answer_line;
 use explain::report::explain;
+use std::fs::File;
+use std::io::Stderr;
+use std::rt::{Env, Files};
 use streams::argument::argument;
+use streams::buffers::buffer;
 use streams::input::{Loaded, load_name};
 use streams::message;
+use streams::standard::Streams;
 use streams::standard_output::Output;
 
 // One byte more than a question line may have.
@@ -24,6 +29,7 @@ fn question_buffer() -> [u8; QuestionLine::BYTES + 1]
 
 // Hands on what was found in a table that was asked this question.
 fn print_report(
+    errors: Stderr,
     output: Output,
     name: &[u8],
     question: &[u8],
@@ -34,52 +40,63 @@ fn print_report(
 {
     let mut out = report_buffer();
     let filled = explain(name, question, table, answer, &mut out);
-    print_filled(output, filled, &out)
+    print_filled(errors, output, filled, &out)
 }
 
 // Asks the table the question; one that is none is told.
-fn ask(name: &[u8], table: &[u8], line: &[u8]) {
+fn ask(streams: Streams, name: &[u8], table: &[u8], line: &[u8]) {
     let mut buffer = [0u8; Answer::BUFFER];
     let answered = answer_line(table, line, &mut buffer);
     let answer = answered.answer;
     match answer {
         Answer::MalformedQuestion => {
-            message::tell(b"this is no question; write COMMAND USER GROUPS HOST MINUTE AGE ARGS")
+            message::tell(
+                streams.errors,
+                b"this is no question; write COMMAND USER GROUPS HOST MINUTE AGE ARGS",
+            )
         }
         _ => {
-            print_report(Output::new(), name, line, table, answer);
+            print_report(
+                streams.errors,
+                Output::new(streams),
+                name,
+                line,
+                table,
+                answer,
+            );
         }
     }
 }
 
 // Asks the table of this name the question.
-fn ask_named(name: &[u8], line: &[u8]) {
+fn ask_named<R: Files<File = File>>(rt: &R, streams: Streams, name: &[u8], line: &[u8]) {
     let mut table = file_buffer();
-    let Loaded::Bytes(n) = load_named(name, &mut table) else {
+    let Loaded::Bytes(n) = load_named(rt, streams, name, &mut table) else {
         return;
     };
-    ask(name, &table[..n], line);
+    ask(streams, name, &table[..n], line);
 }
 
 // Asks the table that an argument names the question.
-fn ask_at(i: usize, line: &[u8]) {
-    let mut name = io::buffer();
-    let Loaded::Bytes(n) = load_name(i, b"the name of the table", &mut name) else {
+fn ask_at<R: Env + Files<File = File>>(rt: &R, streams: Streams, i: usize, line: &[u8]) {
+    let mut name = buffer();
+    let Loaded::Bytes(n) = load_name(rt, streams.errors, i, b"the name of the table", &mut name)
+    else {
         return;
     };
-    ask_named(&name[..n], line);
+    ask_named(rt, streams, &name[..n], line);
 }
 
 // Checks the table that an argument names.
-pub fn check(i: usize) {
-    ask_at(i, b"check root - localhost 0 -");
+pub fn check<R: Env + Files<File = File>>(rt: &R, streams: Streams, i: usize) {
+    ask_at(rt, streams, i, b"check root - localhost 0 -");
 }
 
 // The same, with the question in the argument behind it.
-pub fn check_with(i: usize) {
+pub fn check_with<R: Env + Files<File = File>>(rt: &R, streams: Streams, i: usize) {
     let mut line = question_buffer();
     if i < usize::MAX {
-        let n = argument(i + 1, &mut line);
-        ask_at(i, &line[..n]);
+        let n = argument(rt, i + 1, &mut line);
+        ask_at(rt, streams, i, &line[..n]);
     }
 }

@@ -1,7 +1,7 @@
 // What is asked for, or what is wrong with how it is asked.
 
 // The numbers of the arguments that name files or are a question; 0 for none.
-#[derive(Drop)]
+#[derive(Clone, Copy)]
 pub struct Arguments {
     // The table, su file or log that is read.
     pub file: usize,
@@ -10,7 +10,7 @@ pub struct Arguments {
     pub question: usize,
 }
 
-#[derive(Drop)]
+#[derive(Clone, Copy)]
 pub enum Request {
     // To answer questions from a table, perhaps with a log of the answers.
     Answer(Arguments),
@@ -30,7 +30,7 @@ pub enum Request {
 }
 
 // A wrong use, with the numbers of the arguments that are wrong.
-#[derive(Drop)]
+#[derive(Clone, Copy)]
 pub enum Misuse {
     NoTable,
     NoSuFile,
@@ -49,14 +49,14 @@ pub enum Misuse {
 }
 
 // What was found in looking for a wrong use.
-#[derive(Drop)]
+#[derive(Clone, Copy)]
 pub enum Checked {
     Good,
     Bad(Misuse),
 }
 
 // What is to be done, as the options say it.
-#[derive(Drop)]
+#[derive(Clone, Copy)]
 pub enum Task {
     AnswerFromTable,
     AnswerFromSuFile,

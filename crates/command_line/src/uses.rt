@@ -8,6 +8,7 @@ use super::request::{Checked, Request, Task};
 use super::word::{
     CHECK, END_OF_OPTIONS, FIGURES, HELP, LOG, OPERAND, READ_LOG, SU, VERSION, word_at,
 };
+use std::rt::Env;
 use text::slice::{Found, find_byte, head_is};
 
 // The number of the argument that is the file of this option; 0 for none.
@@ -105,16 +106,15 @@ pub fn request_of(words: &[u8]) -> Request
 }
 
 // The words of the program's arguments, as many as there is room for.
-fn read_words(out: &mut [u8]) -> usize
+fn read_words<R: Env>(rt: &R, out: &mut [u8]) -> usize
     ensures { result ≤ length out.new }
 {
-    let count = os::arg_count();
     let mut n = 0;
     while n < out.len() {
-        if n + 1 >= count {
+        let Some(word) = word_at(rt, n + 1) else {
             return n;
-        }
-        out[n] = word_at(n + 1);
+        };
+        out[n] = word;
         n += 1;
     }
     n
@@ -122,8 +122,8 @@ fn read_words(out: &mut [u8]) -> usize
 
 // The request of the program's arguments. Of more than 64 one is wrong, since each option stands once, and the first that is
 // wrong is among the first 64.
-pub fn requested() -> Request {
+pub fn requested<R: Env>(rt: &R) -> Request {
     let mut words = [0u8; 64];
-    let n = read_words(&mut words);
+    let n = read_words(rt, &mut words);
     request_of(&words[..n])
 }

@@ -4,6 +4,8 @@ ghost use Rattle.text.specs.Slice.{same};
 ghost use Rattle.command_line.specs.Word.{word_of};
 ghost use Rattle.command_line.specs.Contract.{text_of, word_at};
 
+use std::env::FillError;
+use std::rt::Env;
 use text::slice::head_is;
 
 // It does not begin with `-`.
@@ -106,15 +108,21 @@ pub fn word_of(text: &[u8]) -> u8
     OTHER_OPTION
 }
 
-// Of an argument that is longer than all options only the first byte is looked at; one that is not there is an operand.
-pub fn word_at(i: usize) -> u8 {
-    let mut text = [0u8; 17];
-    let n = os::arg(i, &mut text);
-    if os::errno() == 0 {
-        return word_of(&text[..n]);
-    }
-    if text[0] == b'-' {
+// The word of an argument that is longer than all options, by its first byte.
+fn long_word(first: u8) -> u8 {
+    if first == b'-' {
         return OTHER_OPTION;
     }
     OPERAND
+}
+
+// The word of an argument, none of one that is not there. Of one that is longer than all options only the first byte is
+// looked at.
+pub fn word_at<R: Env>(rt: &R, i: usize) -> Option<u8> {
+    let mut text = [0u8; 17];
+    match rt.arg(i, &mut text) {
+        Ok(n) => Some(word_of(&text[..n])),
+        Err(FillError::TooLong) => Some(long_word(text[0])),
+        Err(FillError::NotPresent) => None,
+    }
 }

@@ -13,7 +13,7 @@ use text::buffer::Filled;
 const LINE: usize = 32;
 
 // How many bytes of a block were shown, and how many bytes of lines wait then.
-#[derive(Drop)]
+#[derive(Clone, Copy)]
 pub struct Shown {
     pub bytes: usize,
     pub waiting: usize,

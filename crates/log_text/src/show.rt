@@ -6,12 +6,13 @@ ghost use Rattle.log_text.specs.Contract.{HandsOn, Follows, LoadedBehind, Serves
 
 use super::block::{move_front, show_block, show_last};
 use record::Record;
-use streams::input::{Loaded, read_some};
-use streams::message;
+use streams::buffers::large_buffer;
+use streams::input::{Input, Loaded, read_some};
+use streams::standard::Streams;
 use streams::standard_output::Output;
 
 // How far a log has been read and printed.
-#[derive(Drop)]
+#[derive(Clone, Copy)]
 pub struct Run {
     // The bytes of a record that has only begun, at the front of the block.
     pub begun: usize,
@@ -24,12 +25,12 @@ pub struct Run {
 
 impl Run {
     // Nothing was read.
-    fn start() -> Run
+    fn start(streams: Streams) -> Run
         ensures { (result.begun ≡ 0) × (result.output.handed ≡ 0) × (result.ended ≡ false) }
     {
         Run {
             begun: 0,
-            output: Output::new(),
+            output: Output::new(streams),
             going: true,
             ended: false,
         }
@@ -101,8 +102,8 @@ fn take_block(block: &mut [u8], end: usize, out: &mut [u8], start: Output) -> Ru
     }
 }
 
-// What a read told is taken: the bytes behind those of a record that has begun, or the log's end.
-fn take_loaded(loaded: Loaded, name: &[u8], block: &mut [u8], out: &mut [u8], run: Run) -> Run
+// What a read told is taken: the bytes behind those of a record that has begun, or the log's end. A failure was told.
+fn take_loaded(loaded: Loaded, block: &mut [u8], out: &mut [u8], run: Run) -> Run
     requires { LoadedIn (drop run.begun block.old) loaded × (run.begun ≤ length block.old) × (32 ≤ length out.old) }
     ensures begun_in_bounds { result.begun ≤ length block.new }
     ensures serves { Serves loaded (take run.begun block.old) (drop run.begun block.old) run (take result.begun block.new) result }
@@ -110,10 +111,7 @@ fn take_loaded(loaded: Loaded, name: &[u8], block: &mut [u8], out: &mut [u8], ru
     let begun = run.begun;
     let output = run.output;
     match loaded {
-        Loaded::Failed => {
-            message::failed(name);
-            run.stopped()
-        }
+        Loaded::Failed => run.stopped(),
         Loaded::Bytes(n) => {
             if n == 0 {
                 let last = print_last(&block[0..begun], out, output);
@@ -130,34 +128,34 @@ fn take_loaded(loaded: Loaded, name: &[u8], block: &mut [u8], out: &mut [u8], ru
 }
 
 // Reads once, behind the bytes of a record that has begun, which stay.
-fn read_behind(fd: i32, block: &mut [u8], begun: usize) -> Loaded
+fn read_behind(input: Input<'_>, block: &mut [u8], begun: usize) -> Loaded
     requires { begun ≤ length block.old }
     ensures { LoadedBehind begun block.old block.new result }
 {
-    read_some(fd, &mut block[begun..])
+    read_some(input, &mut block[begun..])
 }
 
 // Nothing says that the log ends, so the turns are counted down from a number that no run uses up.
-fn read_blocks(fd: i32, name: &[u8], block: &mut [u8], out: &mut [u8]) -> Run
+fn read_blocks(streams: Streams, input: Input<'_>, block: &mut [u8], out: &mut [u8]) -> Run
     requires { 32 ≤ length out.old }
     ensures { PrintsLog result }
 {
-    let mut run = Run::start();
+    let mut run = Run::start(streams);
     let mut turns = u64::MAX;
     while turns > 0 && run.going {
         let begun = run.begun;
-        let loaded = read_behind(fd, block, begun);
-        run = take_loaded(loaded, name, block, out, run);
+        let loaded = read_behind(input, block, begun);
+        run = take_loaded(loaded, block, out, run);
         turns -= 1;
     }
     run
 }
 
 // Prints a line for each record of an open log, and one for what is left at its end.
-pub fn show(fd: i32, name: &[u8]) -> Run
+pub fn show(streams: Streams, input: Input<'_>) -> Run
     ensures { PrintsLog result }
 {
-    let mut block = io::large_buffer();
-    let mut out = io::large_buffer();
-    read_blocks(fd, name, &mut block, &mut out)
+    let mut block = large_buffer();
+    let mut out = large_buffer();
+    read_blocks(streams, input, &mut block, &mut out)
 }

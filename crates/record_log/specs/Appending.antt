@@ -1,9 +1,13 @@
 -- What the contracts of a log's file say.
-use Rattle.std.specs.Prelude.{◌≡◌, Bool, true, false, cond, List, ℕ, eqb, ℤ, length, take}
-use Rattle.io.specs.Counts.{clamp_len}
+use Rattle.std.specs.Prelude.{◌≡◌, Bool, true, false, cond, List, ℕ, eqb, min, ℤ, pos, negsuc, length, take}
 use Rattle.streams.specs.Contract.{counted_on}
 use Rattle.record_log.specs.declared.appended.Appended.{Appended}
 use Rattle.record_log.specs.declared.file.Log.{Log}
+
+-- what a call of the system's told, as a number of at most so many bytes
+abbrev pub clamp_len : ℤ → ℕ → ℕ
+clamp_len (pos k) most = min k most
+clamp_len (negsuc k) most = 0
 
 -- a write of so many bytes that told this took all of them
 unfoldable pub took_all : ℤ → (count : ℕ) → Bool

@@ -1,36 +1,74 @@
 // What was handed to a log's file.
 ghost use Rattle.std.specs.Prelude.{◌≡◌, true, length, take};
-ghost use Rattle.record_log.specs.Appending.{took_all, AfterWrite, HandsOn, AppendsFirst};
+ghost use Rattle.record_log.specs.Appending.{clamp_len, took_all, AfterWrite, HandsOn, AppendsFirst};
 
+use std::fs::File;
+use std::io;
+use std::io::{Error, Stderr, Write};
 use streams::message;
 use streams::standard_output::count_on;
 use text::number::at_most;
 
+// The number that the system has for a write to no open file.
+const NOT_OPEN: i32 = 9;
+
+// What a write that failed tells in place of a count.
+const FAILED: isize = -1;
+
 // How many bytes were handed to a log, and whether each write took all that it was given. Both are private, so that no
 // caller can have others but by handing bytes on.
-#[derive(Drop)]
+#[derive(Clone, Copy)]
 pub struct Appended {
     bytes: u64,
     whole: bool,
+}
+
+// What a write told, as a number of the part's bytes: 0 where it failed.
+fn count(told: isize, part: &[u8]) -> usize
+    ensures { result ≡ clamp_len told (length part.now) }
+{
+    if told < 0 {
+        return 0;
+    }
+    at_most(told as usize, part.len())
 }
 
 // Whether a write that told this took the whole part.
 fn took_all(told: isize, part: &[u8]) -> bool
     ensures { result ≡ took_all told (length part.now) }
 {
-    io::count(told, part) == part.len()
+    count(told, part) == part.len()
 }
 
-// Tells that a write failed or took only a part.
-fn tell_failure(told: isize, name: &[u8]) {
+// What a write told: how many bytes it took, or the number of a failure, which is told.
+fn told_by(answer: io::Result<usize>, errors: Stderr, name: &[u8]) -> isize {
+    match answer {
+        Ok(n) => n as isize,
+        Err(why) => {
+            message::failed_with(errors, name, b"logging stops", why);
+            FAILED
+        }
+    }
+}
+
+// Tells that a write took only a part; of one that failed that was told.
+fn tell_failure(told: isize, errors: Stderr, name: &[u8]) {
     if told < 0 {
-        message::failed_with(name, b"logging stops");
         return;
     }
     message::tell_about(
+        errors,
         name,
         b"only a part of the records could be written, so logging stops; make room, and see that its length is a multiple of 8",
     );
+}
+
+// One call of the system's.
+fn write_once(to: Option<&File>, part: &[u8]) -> io::Result<usize> {
+    match to {
+        Some(mut file) => file.write(part),
+        None => Err(Error::from_raw_os_error(NOT_OPEN)),
+    }
 }
 
 impl Appended {
@@ -52,12 +90,12 @@ impl Appended {
     }
 
     // The same with this part handed on, by what its write told.
-    fn after_write(self, told: isize, name: &[u8], part: &[u8]) -> Appended
+    fn after_write(self, told: isize, errors: Stderr, name: &[u8], part: &[u8]) -> Appended
         ensures { AfterWrite told part.now self result }
     {
         let is_whole = took_all(told, part);
         if !is_whole {
-            tell_failure(told, name);
+            tell_failure(told, errors, name);
         }
         Appended {
             bytes: count_on(self.bytes, part.len()),
@@ -67,23 +105,38 @@ impl Appended {
 
     // Hands on the part, which is the first bytes of the records, with one write. That they are written is trusted: it is
     // the one line with `write`.
-    fn write(self, fd: i32, name: &[u8], records: &[u8], count: usize, part: &[u8]) -> Appended
+    fn write(
+        self,
+        to: Option<&File>,
+        errors: Stderr,
+        name: &[u8],
+        records: &[u8],
+        count: usize,
+        part: &[u8],
+    ) -> Appended
         requires { part.now ≡ take count records.now }
         ensures { HandsOn (take count records.now) self result }
     {
-        let told = libc::write(fd, part);
-        self.after_write(told, name, part)
+        let told = told_by(write_once(to, part), errors, name);
+        self.after_write(told, errors, name, part)
     }
 
     // Hands on so many first bytes of the records, or all where there are fewer, with one write, so that another process that
     // appends never comes between their bytes. A write that fails or takes only a part is told.
-    pub fn append(self, fd: i32, name: &[u8], records: &[u8], waiting: usize) -> Appended
+    pub fn append(
+        self,
+        to: Option<&File>,
+        errors: Stderr,
+        name: &[u8],
+        records: &[u8],
+        waiting: usize,
+    ) -> Appended
         ensures { AppendsFirst waiting records.now self result }
     {
         let count = at_most(waiting, records.len());
         if count == 0 {
             return self;
         }
-        self.write(fd, name, records, count, &records[0..count])
+        self.write(to, errors, name, records, count, &records[0..count])
     }
 }

@@ -3,11 +3,14 @@ ghost use Rattle.std.specs.Prelude.{true, false};
 ghost use Rattle.record_log.specs.Appending.{Begins, Waits, Appends};
 
 use super::appended::Appended;
+use std::fs::File;
+use std::io::Stderr;
 
 // A log and its records that wait in a buffer to be appended.
 #[derive(Drop)]
 pub struct Log {
-    fd: i32,
+    // Where records are appended, none where the log is not open.
+    file: Option<File>,
     // Whether records are appended to it.
     pub is_open: bool,
     // The bytes of records that wait.
@@ -22,19 +25,19 @@ impl Log {
         ensures { Begins false result }
     {
         Log {
-            fd: -1,
+            file: None,
             is_open: false,
             waiting: 0,
             appended: Appended::new(),
         }
     }
 
-    // The log at this descriptor, to which nothing was appended.
-    pub fn on(fd: i32) -> Log
+    // The log in this file, which is open for appending, and to which nothing was appended.
+    pub fn on(file: File) -> Log
         ensures { Begins true result }
     {
         Log {
-            fd,
+            file: Some(file),
             is_open: true,
             waiting: 0,
             appended: Appended::new(),
@@ -45,32 +48,32 @@ impl Log {
     pub fn with_waiting(self, waiting: usize) -> Log
         ensures { Waits waiting self result }
     {
-        let appended = self.appended;
         Log {
-            fd: self.fd,
+            file: self.file,
             is_open: self.is_open,
             waiting,
-            appended,
+            appended: self.appended,
         }
     }
 
     // Appends the records that wait. After a write that fails or takes only a part, which is told, nothing is appended any
     // more.
-    pub fn append(self, name: &[u8], records: &[u8]) -> Log
+    pub fn append(self, errors: Stderr, name: &[u8], records: &[u8]) -> Log
         ensures { Appends records.now self result }
     {
+        let file = self.file;
         let before = self.appended;
-        let appended = before.append(self.fd, name, records, self.waiting);
+        let appended = before.append(file.as_ref(), errors, name, records, self.waiting);
         if !appended.is_whole() {
             return Log {
-                fd: -1,
+                file: None,
                 is_open: false,
                 waiting: 0,
                 appended,
             };
         }
         Log {
-            fd: self.fd,
+            file,
             is_open: self.is_open,
             waiting: 0,
             appended,

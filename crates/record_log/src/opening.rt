@@ -7,18 +7,27 @@ ghost use Rattle.record_log.specs.Contract.{Looked, LooksOn};
 
 use super::file::Log;
 use super::recognise::{Kind, Seen};
-use libc::STDIN_FILENO;
-use streams::identity::{Identity, identify, is_special};
-use streams::input::{Loaded, read_all};
+use std::fs::File;
+use std::io;
+use std::io::{ErrorKind, Stderr};
+use std::rt::Files;
+use streams::buffers::large_buffer;
+use streams::identity::{Identity, identify, identify_input, is_special};
+use streams::input::{Input, Loaded, read_all};
 use streams::message;
+use streams::name::{create, open_append, open_read};
+use streams::standard::Streams;
+
+// What follows where a file cannot be opened or read.
+const NO_LOG: &[u8] = b"there is no log";
 
 // How far a file has been looked at.
-#[derive(Drop)]
+#[derive(Clone, Copy)]
 struct Looking {
     seen: Seen,
     // Whether there is more to read.
     going: bool,
-    // Whether a read failed.
+    // Whether a read failed, which was told.
     failed: bool,
 }
 
@@ -56,14 +65,14 @@ fn look_at(loaded: Loaded, block: &[u8], looking: Looking) -> Looking
 }
 
 // Nothing says that the file ends, so the turns are counted down from a number that no run uses up.
-fn look_through(fd: i32, block: &mut [u8]) -> Looking
+fn look_through(input: Input<'_>, block: &mut [u8]) -> Looking
     requires { length block.old % record_length ≡ 0 }
     ensures { (bytes : List ℕ) × Looked bytes result }
 {
     let mut looking = Looking::start();
     let mut turns = u64::MAX;
     while turns > 0 && looking.going {
-        let loaded = read_all(fd, block);
+        let loaded = read_all(input, block);
         looking = look_at(loaded, block, looking);
         turns -= 1;
     }
@@ -71,13 +80,14 @@ fn look_through(fd: i32, block: &mut [u8]) -> Looking
 }
 
 // Whether records may follow what was found; if not, that is told.
-fn is_welcome(kind: Kind, name: &[u8]) -> bool
+fn is_welcome(kind: Kind, errors: Stderr, name: &[u8]) -> bool
     ensures { result ≡ takes_records kind }
 {
     match kind {
         Kind::Log => true,
         Kind::Text => {
             message::tell_about(
+                errors,
                 name,
                 b"a table may have every byte of it, so it is not appended to; the log comes before the table, --log LOG TABLE; name another log",
             );
@@ -85,6 +95,7 @@ fn is_welcome(kind: Kind, name: &[u8]) -> bool
         }
         Kind::Other => {
             message::tell_about(
+                errors,
                 name,
                 b"it holds something other than records, so it is not appended to; name another log",
             );
@@ -92,6 +103,7 @@ fn is_welcome(kind: Kind, name: &[u8]) -> bool
         }
         Kind::Cut => {
             message::tell_about(
+                errors,
                 name,
                 b"its length is no multiple of 8, so it is not appended to; name another log, or cut what is left of its last record",
             );
@@ -101,114 +113,143 @@ fn is_welcome(kind: Kind, name: &[u8]) -> bool
 }
 
 // Whether the bytes of an open file make it a log; if not, that is told.
-fn has_records(fd: i32, name: &[u8]) -> bool {
-    let mut block = io::large_buffer();
-    let looking = look_through(fd, &mut block);
+fn has_records(streams: Streams, file: &File, name: &[u8]) -> bool {
+    let mut block = large_buffer();
+    let input = Input::of_file(streams, file, name, NO_LOG);
+    let looking = look_through(input, &mut block);
     if looking.failed {
-        message::failed_with(name, b"there is no log");
         return false;
     }
     let seen = looking.seen;
-    is_welcome(seen.kind(), name)
+    is_welcome(seen.kind(), streams.errors, name)
 }
 
 // Whether records may be appended to this open file while the table is read; if not, that is told.
-fn may_be_log(fd: i32, file: Identity, name: &[u8], table: Identity) -> bool {
-    if file.is_same(table) {
+fn may_be_log<R: Files>(
+    rt: &R,
+    streams: Streams,
+    file: &File,
+    identity: Identity,
+    name: &[u8],
+    table: Identity,
+) -> bool {
+    if identity.is_same(table) {
         message::tell_about(
+            streams.errors,
             name,
             b"it is the table that is read, so it is not appended to; name another log",
         );
         return false;
     }
-    if file.is_same(identify(STDIN_FILENO)) {
+    if identity.is_same(identify_input(rt)) {
         message::tell_about(
+            streams.errors,
             name,
             b"the questions are read from it, so it is not appended to; name another log",
         );
         return false;
     }
-    has_records(fd, name)
+    has_records(streams, file, name)
 }
 
-// A descriptor for reading the file of this name, which is made where it is missing; below zero where that fails.
-fn open_or_make(name: &[u8]) -> i32 {
-    let fd = os::open_read(name);
-    if fd >= 0 {
-        return fd;
+// Makes the file of this name, and opens it for reading; one that was made meanwhile is opened.
+fn make<R: Files<File = File>>(rt: &R, name: &[u8]) -> io::Result<File> {
+    match create(rt, name) {
+        Ok(_) => open_read(rt, name),
+        Err(why) => {
+            if why.kind() != ErrorKind::AlreadyExists {
+                return Err(why);
+            }
+            open_read(rt, name)
+        }
     }
-    if os::errno() != libc::ENOENT {
-        return fd;
-    }
-    let made = os::create(name);
-    if made >= 0 {
-        libc::close(made);
-        return os::open_read(name);
-    }
-    if os::errno() != libc::EEXIST {
-        return made;
-    }
-    os::open_read(name)
 }
 
-fn tell_special(name: &[u8]) {
+// The file of this name, for reading, which is made where it is missing.
+fn open_or_make<R: Files<File = File>>(rt: &R, name: &[u8]) -> io::Result<File> {
+    match open_read(rt, name) {
+        Ok(file) => Ok(file),
+        Err(why) => {
+            if why.kind() != ErrorKind::NotFound {
+                return Err(why);
+            }
+            make(rt, name)
+        }
+    }
+}
+
+fn tell_special(errors: Stderr, name: &[u8]) {
     message::tell_about(
+        errors,
         name,
         b"it is a directory, a pipe or a device, so it is not appended to; name a file",
     );
 }
 
 // The log of this name, if it is still the file that was looked at.
-fn open_again(name: &[u8], file: Identity) -> Log
+fn open_again<R: Files<File = File>>(
+    rt: &R,
+    errors: Stderr,
+    name: &[u8],
+    looked_at: Identity,
+) -> Log
     ensures { result.waiting ≡ 0 }
 {
-    let fd = os::open_append(name);
-    if fd < 0 {
-        message::failed_with(name, b"there is no log");
-        return Log::none();
+    match open_append(rt, name) {
+        Ok(file) => {
+            let opened = identify(&file);
+            if !opened.is_same(looked_at) {
+                message::tell_about(
+                    errors,
+                    name,
+                    b"another file has its name now, so it is not appended to; try again",
+                );
+                return Log::none();
+            }
+            Log::on(file)
+        }
+        Err(why) => {
+            message::failed_with(errors, name, NO_LOG, why);
+            Log::none()
+        }
     }
-    let opened = identify(fd);
-    if !opened.is_same(file) {
-        message::tell_about(
-            name,
-            b"another file has its name now, so it is not appended to; try again",
-        );
-        libc::close(fd);
-        return Log::none();
-    }
-    Log::on(fd)
 }
 
 // The log of this open file, if records may be appended to it.
-fn open_looked_at(fd: i32, name: &[u8], table: Identity) -> Log
+fn open_looked_at<R: Files<File = File>>(
+    rt: &R,
+    streams: Streams,
+    file: &File,
+    name: &[u8],
+    table: Identity,
+) -> Log
     ensures { result.waiting ≡ 0 }
 {
-    let file = identify(fd);
-    if !file.regular {
-        tell_special(name);
+    let identity = identify(file);
+    if !identity.regular {
+        tell_special(streams.errors, name);
         return Log::none();
     }
-    if !may_be_log(fd, file, name, table) {
+    if !may_be_log(rt, streams, file, identity, name, table) {
         return Log::none();
     }
-    open_again(name, file)
+    open_again(rt, streams.errors, name, identity)
 }
 
 // The log of this name, for the answers of a table. One that cannot be opened, or is no log, is told and is not appended to.
 // A pipe is not opened, since that may wait for ever.
-pub fn open(name: &[u8], table: Identity) -> Log
+pub fn open<R: Files<File = File>>(rt: &R, streams: Streams, name: &[u8], table: Identity) -> Log
     ensures { result.waiting ≡ 0 }
 {
-    if is_special(name) {
-        tell_special(name);
+    if is_special(rt, name) {
+        tell_special(streams.errors, name);
         return Log::none();
     }
-    let fd = open_or_make(name);
-    if fd < 0 {
-        message::failed_with(name, b"there is no log");
-        return Log::none();
+    match open_or_make(rt, name) {
+        Ok(file) => open_looked_at(rt, streams, &file, name, table),
+        Err(why) => {
+            message::failed_with(streams.errors, name, NO_LOG, why);
+            Log::none()
+        }
     }
-    let log = open_looked_at(fd, name, table);
-    libc::close(fd);
-    log
 }

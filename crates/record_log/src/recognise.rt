@@ -12,7 +12,7 @@ use record::read::read_record;
 use text::slice::Found;
 
 // What the bytes of a file make of it.
-#[derive(Drop)]
+#[derive(Clone, Copy)]
 pub enum Kind {
     // Whole records, or nothing at all: more can be appended.
     Log,
@@ -25,7 +25,7 @@ pub enum Kind {
 }
 
 // What was seen in the bytes of a file so far.
-#[derive(Drop)]
+#[derive(Clone, Copy)]
 pub struct Seen {
     // There was no byte.
     empty: bool,

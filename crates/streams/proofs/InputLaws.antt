@@ -1,14 +1,13 @@
 -- Laws of what the readers tell.
-use mathlib.Core.Path.{◌≡◌, sym, ap, ◌∙◌, subst}
-use mathlib.Core.List.{List}
-use Prim.Native.Nat.{ℕ, ◌≤◌}
-use native.Mathlib.Omega.{arith}
-use lib.ListN.{length}
-use Rattle.io.specs.Counts.{IsPrefixLen}
-use Rattle.io.proofs.Counting.{prefix_len_of_le}
+use Rattle.std.proofs.Common.{◌≡◌, ◌≤◌, ℕ, List, length, sym, ap, ◌∙◌, subst, arith}
+use Rattle.std.proofs.lemmas.List.{length-take-le}
 use Rattle.streams.specs.declared.input.Loaded.{Loaded}
 use Rattle.streams.specs.declared.input.Loaded.TheVariants.{Bytes, Failed}
-use Rattle.streams.specs.Contract.{bytes_told, LoadedIn}
+use Rattle.streams.specs.Contract.{IsPrefixLen, bytes_told, LoadedIn}
+
+-- a count of bytes that a buffer has
+pub prefix_len_of_le : (n : ℕ) (xs : List ℕ) → n ≤ length xs → IsPrefixLen n xs
+prefix_len_of_le n xs h = (h, sym (length-take-le n xs h))
 
 -- the bytes that are told are in the buffer
 pub loaded_bytes : {buffer : List ℕ} {r : Loaded} {n : ℕ} → LoadedIn buffer r → r ≡ Bytes n → IsPrefixLen n buffer

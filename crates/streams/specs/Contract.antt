@@ -1,10 +1,13 @@
 -- What the contracts of the readers and of the writer say.
-use Rattle.std.specs.Prelude.{◌≡◌, Bool, true, ◌&&◌, List, ℕ, ◌+◌, ◌/◌, ◌%◌, min, eqb, length}
-use Rattle.io.specs.Counts.{IsPrefixLen}
+use Rattle.std.specs.Prelude.{◌≡◌, Bool, true, ◌&&◌, List, ℕ, ◌+◌, ◌/◌, ◌%◌, ◌≤◌, min, eqb, length, take}
 use Rattle.streams.specs.declared.identity.Identity.{Identity}
 use Rattle.streams.specs.declared.input.Loaded.{Loaded}
 use Rattle.streams.specs.declared.input.Loaded.TheVariants.{Bytes, Failed}
 use Rattle.streams.specs.declared.standard_output.Output.{Output}
+
+-- a count of first bytes: they are there, and are as many
+abbrev pub IsPrefixLen : ℕ → List ℕ → Type 0
+IsPrefixLen n xs = (n ≤ length xs) × (n ≡ length (take n xs))
 
 -- how many bytes are told
 abbrev pub bytes_told : Loaded → ℕ

@@ -1,13 +1,16 @@
 // The bytes of an argument.
-ghost use Rattle.io.specs.Counts.{IsPrefixLen};
+ghost use Rattle.streams.specs.Contract.{IsPrefixLen};
+
+use std::env::FillError;
+use std::rt::Env;
 
 // The bytes of an argument; one that is longer fills the buffer.
-pub fn argument(i: usize, out: &mut [u8]) -> usize
+pub fn argument<R: Env>(rt: &R, i: usize, out: &mut [u8]) -> usize
     ensures { IsPrefixLen result out.new }
 {
-    let n = os::arg(i, out);
-    if os::errno() == libc::ENAMETOOLONG {
-        return out.len();
+    match rt.arg(i, out) {
+        Ok(n) => n,
+        Err(FillError::TooLong) => out.len(),
+        Err(FillError::NotPresent) => 0,
     }
-    n
 }

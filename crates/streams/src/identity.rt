@@ -1,22 +1,25 @@
-// Which file a descriptor is on, whatever name it was opened by.
-ghost use Rattle.std.specs.Prelude.{◌<◌, ◌≡◌, false, length};
-ghost use Rattle.libc.specs.Io.{Ended};
+// Which file an open one is, whatever name it was opened by.
+ghost use Rattle.std.specs.Prelude.{◌≡◌, false};
 ghost use Rattle.streams.specs.Contract.{regular_mode, same_file};
 
-use libc::PATH_MAX;
-use libc::types::{stat, timespec};
-
-const LAST: usize = PATH_MAX - 1;
+use super::name::path_of;
+use std::fs::{File, Metadata};
+use std::os::unix::fs::MetadataExt;
+use std::rt::Files;
+use std::{fs, io};
 
 // The kind of a file is one of sixteen in its mode, above twelve bits of permissions.
 const KINDS: u32 = 16;
 
-const KIND: u32 = libc::S_IFMT / (KINDS - 1);
+const KIND: u32 = 4096;
 
-const REGULAR: u32 = libc::S_IFREG / KIND;
+const REGULAR: u32 = 8;
+
+// The name by which the system knows the file of standard input.
+const INPUT: &str = "/proc/self/fd/0";
 
 // A file's device and its number there.
-#[derive(Drop)]
+#[derive(Clone, Copy)]
 pub struct Identity {
     pub device: u64,
     pub number: u64,
@@ -37,6 +40,7 @@ impl Identity {
     }
 
     // Whether both are one regular file.
+    #[tactic(auto, unfolding(crate::specs::Contract::same_file))]
     pub fn is_same(self, other: Identity) -> bool
         ensures { result ≡ same_file self other }
     {
@@ -45,71 +49,8 @@ impl Identity {
     }
 }
 
-fn no_time() -> timespec {
-    timespec {
-        tv_sec: 0,
-        tv_nsec: 0,
-    }
-}
-
-// What the system fills in, at first; no kind of file has the mode 0.
-fn no_status() -> stat {
-    stat {
-        st_dev: 0,
-        st_ino: 0,
-        st_nlink: 0,
-        st_mode: 0,
-        st_uid: 0,
-        st_gid: 0,
-        __pad: 0,
-        st_rdev: 0,
-        st_size: 0,
-        st_blksize: 0,
-        st_blocks: 0,
-        st_atim: no_time(),
-        st_mtim: no_time(),
-        st_ctim: no_time(),
-        __unused: [0; 3],
-    }
-}
-
-// What the system answered, and what it filled in.
-#[derive(Drop)]
-struct Answered {
-    result: i32,
-    status: stat,
-}
-
-// What the system knows of the file of a descriptor.
-fn status_on(fd: i32, mut status: stat) -> Answered {
-    let result = libc::fstat(fd, &mut status);
-    Answered { result, status }
-}
-
-// What the system knows of the file of a name.
-fn status_at(path: &[u8; PATH_MAX], mut status: stat) -> Answered
-    requires { Ended path.now }
-{
-    let result = libc::stat(path, &mut status);
-    Answered { result, status }
-}
-
-// A name with zeros behind it, by which the system sees where it ends.
-fn ended(name: &[u8]) -> [u8; PATH_MAX]
-    requires { length name.now < 4096 }
-    ensures { Ended result }
-{
-    let mut path = io::buffer();
-    let mut i = 0;
-    while i < name.len() {
-        path[i] = name[i];
-        i += 1;
-    }
-    path[LAST] = 0;
-    path
-}
-
 // Whether a mode is that of a regular file.
+#[tactic(auto, unfolding(crate::specs::Contract::regular_mode))]
 fn is_regular_mode(mode: u32) -> bool
     ensures { result ≡ regular_mode mode }
 {
@@ -117,28 +58,39 @@ fn is_regular_mode(mode: u32) -> bool
 }
 
 // Whether it is known to be a regular file.
-fn is_regular(answered: Answered) -> bool {
-    let status = answered.status;
-    answered.result == 0 && is_regular_mode(status.st_mode)
+fn is_regular(status: &Metadata) -> bool {
+    is_regular_mode(status.mode())
 }
 
-// The file of a descriptor; one that the system tells nothing of is not regular.
-pub fn identify(fd: i32) -> Identity {
-    let answered = status_on(fd, no_status());
-    let status = answered.status;
-    Identity {
-        device: status.st_dev,
-        number: status.st_ino,
-        regular: is_regular(answered),
+// What the system answered of a file; one that it tells nothing of is not regular.
+fn identity_in(answered: io::Result<Metadata>) -> Identity {
+    match answered {
+        Ok(status) => Identity {
+            device: status.dev(),
+            number: status.ino(),
+            regular: is_regular(&status),
+        },
+        Err(_) => Identity::unknown(),
     }
+}
+
+// An open file; one that the system tells nothing of is not regular.
+pub fn identify(file: &File) -> Identity {
+    identity_in(file.metadata())
+}
+
+// The same of the file that standard input is.
+pub fn identify_input<R: Files>(rt: &R) -> Identity {
+    identity_in(fs::metadata(rt, INPUT))
 }
 
 // Whether there is a file of this name that is no regular one. It is not opened, since that of a pipe may wait for ever.
-pub fn is_special(name: &[u8]) -> bool {
-    if name.len() >= PATH_MAX {
+pub fn is_special<R: Files>(rt: &R, name: &[u8]) -> bool {
+    let Ok(path) = path_of(name) else {
         return false;
+    };
+    match fs::metadata(rt, path) {
+        Ok(status) => !is_regular(&status),
+        Err(_) => false,
     }
-    let path = ended(name);
-    let answered = status_at(&path, no_status());
-    answered.result == 0 && !is_regular(answered)
 }

@@ -10,7 +10,7 @@ use output::behind::{then_all, then_decimal};
 use text::buffer::{Filled, put_all};
 
 // What was found in a log.
-#[derive(Drop)]
+#[derive(Clone, Copy)]
 pub struct Summary {
     pub figures: Figures,
     // How many records lie past the limit.

@@ -1,83 +1,91 @@
 // Answers with a log, and what is printed of one.
 use checker::file::{file_buffer, load_argument};
-use libc::STDIN_FILENO;
+use log_text::show::show;
 use record_log::file::Log;
 use record_log::opening::open;
-use log_text::show::show;
 use responder::lines::answer_lines;
 use responder::source::Source;
+use std::fs::File;
+use std::rt::{Env, Files};
+use streams::buffers::buffer;
 use streams::identity::Identity;
-use streams::input::{Loaded, load_name};
+use streams::input::{Input, Loaded, load_name};
 use streams::message;
+use streams::name::open_read;
+use streams::standard::Streams;
 use summary::gather::print_figures;
 use text::slice::equal;
 
 // What is printed of a log.
-#[derive(Drop)]
+#[derive(Clone, Copy)]
 pub enum LogView {
     Records,
     Figures,
 }
 
 // Answers the questions of standard input from the table of this identity, with the log that an argument names, if it can be had.
-fn answer_logged(table: &[u8], identity: Identity, i: usize) {
-    let mut name = io::buffer();
-    match load_name(i, b"the name of the log", &mut name) {
+fn answer_logged<R: Env + Files<File = File>>(
+    rt: &R,
+    streams: Streams,
+    table: &[u8],
+    identity: Identity,
+    i: usize,
+) {
+    let mut name = buffer();
+    match load_name(rt, streams.errors, i, b"the name of the log", &mut name) {
         Loaded::Failed => {
-            answer_lines(Source::Table, table, Log::none(), b"");
+            answer_lines(streams, Source::Table, table, Log::none(), b"");
         }
         Loaded::Bytes(n) => {
-            let opened = open(&name[..n], identity);
-            answer_lines(Source::Table, table, opened, &name[..n]);
+            let opened = open(rt, streams, &name[..n], identity);
+            answer_lines(streams, Source::Table, table, opened, &name[..n]);
         }
     }
 }
 
 // Answers the questions of standard input, with the log and the table that these arguments name. The table is read
 // before the log is opened, so that a wrong table leaves no log behind.
-pub fn answer(i: usize, j: usize) {
+pub fn answer<R: Env + Files<File = File>>(rt: &R, streams: Streams, i: usize, j: usize) {
     let mut bytes = file_buffer();
-    let read = load_argument(j, b"the name of the table", &mut bytes);
+    let read = load_argument(rt, streams, j, b"the name of the table", &mut bytes);
     let loaded = read.loaded;
     let identity = read.identity;
     let Loaded::Bytes(n) = loaded else {
         return;
     };
-    answer_logged(&bytes[..n], identity, i);
+    answer_logged(rt, streams, &bytes[..n], identity, i);
 }
 
 // Prints what is asked of an open log.
-fn print_view(view: LogView, fd: i32, name: &[u8]) {
+fn print_view(streams: Streams, view: LogView, input: Input<'_>) {
     match view {
         LogView::Records => {
-            show(fd, name);
+            show(streams, input);
         }
         LogView::Figures => {
-            print_figures(fd, name);
+            print_figures(streams, input);
         }
     }
 }
 
 // Prints what is asked of the log of this name, `-` for standard input; one that cannot be opened is told.
-fn read_named(view: LogView, name: &[u8]) {
+fn read_named<R: Files<File = File>>(rt: &R, streams: Streams, view: LogView, name: &[u8]) {
     if equal(name, b"-") {
-        print_view(view, STDIN_FILENO, b"standard input");
+        print_view(streams, view, Input::standard(streams));
         return;
     }
-    let fd = os::open_read(name);
-    if fd < 0 {
-        message::failed(name);
-        return;
+    match open_read(rt, name) {
+        Ok(file) => print_view(streams, view, Input::of_file(streams, &file, name, b"")),
+        Err(why) => message::failed(streams.errors, name, why),
     }
-    print_view(view, fd, name);
-    libc::close(fd);
 }
 
 // Prints what is asked of the log that an argument names.
-pub fn read(view: LogView, i: usize) {
-    let mut name = io::buffer();
-    let Loaded::Bytes(n) = load_name(i, b"the name of the log", &mut name) else {
+pub fn read<R: Env + Files<File = File>>(rt: &R, streams: Streams, view: LogView, i: usize) {
+    let mut name = buffer();
+    let Loaded::Bytes(n) = load_name(rt, streams.errors, i, b"the name of the log", &mut name)
+    else {
         return;
     };
-    read_named(view, &name[..n]);
+    read_named(rt, streams, view, &name[..n]);
 }

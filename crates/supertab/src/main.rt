@@ -7,25 +7,35 @@ use checker::file::{file_buffer, load};
 use checker::{su, table};
 use command_line::request::{Arguments, Misuse, Request};
 use command_line::uses::requested;
-use record_log::file::Log;
 use logging::LogView;
+use record_log::file::Log;
 use responder::lines::answer_lines;
 use responder::source::Source;
+use std::fs::File;
+use std::rt::{Env, Files};
 use streams::input::Loaded;
+use streams::standard::Streams;
 use streams::{message, standard_output};
 
 // Answers the questions of standard input from the file that an argument names, which is of this kind; a name that cannot
 // be had is told by what it is the name of.
-fn answer(source: Source, i: usize, what: &[u8]) {
+fn answer<R: Env + Files<File = File>>(
+    rt: &R,
+    streams: Streams,
+    source: Source,
+    i: usize,
+    what: &[u8],
+) {
     let mut bytes = file_buffer();
-    let Loaded::Bytes(n) = load(i, what, &mut bytes) else {
+    let Loaded::Bytes(n) = load(rt, streams, i, what, &mut bytes) else {
         return;
     };
-    answer_lines(source, &bytes[..n], Log::none(), b"");
+    answer_lines(streams, source, &bytes[..n], Log::none(), b"");
 }
 
-fn help() {
+fn help(streams: Streams) {
     standard_output::print(
+        streams,
         b"supertab TABLE < QUESTIONS             print an answer for each question line\n\
         supertab --log FILE TABLE < QUESTIONS  the same, and append a record of each answer to the file\n\
         supertab --su FILE < QUESTIONS         print an answer from a su file for each question line\n\
@@ -42,78 +52,122 @@ fn help() {
 }
 
 // Answers from a table, with a log if one is named.
-fn answer_table(arguments: Arguments) {
+fn answer_table<R: Env + Files<File = File>>(rt: &R, streams: Streams, arguments: Arguments) {
     if arguments.log == 0 {
-        answer(Source::Table, arguments.file, b"the name of the table");
+        answer(
+            rt,
+            streams,
+            Source::Table,
+            arguments.file,
+            b"the name of the table",
+        );
     } else {
-        logging::answer(arguments.log, arguments.file);
+        logging::answer(rt, streams, arguments.log, arguments.file);
     }
 }
 
 // Checks a table, with the question in the argument behind it if there is one.
-fn check_table(arguments: Arguments) {
+fn check_table<R: Env + Files<File = File>>(rt: &R, streams: Streams, arguments: Arguments) {
     if arguments.question == 0 {
-        table::check(arguments.file);
+        table::check(rt, streams, arguments.file);
     } else {
-        table::check_with(arguments.file);
+        table::check_with(rt, streams, arguments.file);
     }
 }
 
 // Tells what is wrong, and what to do.
-fn tell(misuse: Misuse) {
+fn tell<R: Env>(rt: &R, streams: Streams, misuse: Misuse) {
+    let errors = streams.errors;
     match misuse {
-        Misuse::NoTable => message::tell(b"no table is named; supertab --help tells the uses"),
-        Misuse::NoSuFile => message::tell(b"no su file is named; supertab --help tells the uses"),
-        Misuse::NoLog => message::tell(b"no log is named; supertab --help tells the uses"),
-        Misuse::LogToOutput => message::tell(b"-: the log must be a file"),
+        Misuse::NoTable => message::tell(
+            errors,
+            b"no table is named; supertab --help tells the uses",
+        ),
+        Misuse::NoSuFile => message::tell(
+            errors,
+            b"no su file is named; supertab --help tells the uses",
+        ),
+        Misuse::NoLog => message::tell(errors, b"no log is named; supertab --help tells the uses"),
+        Misuse::LogToOutput => message::tell(errors, b"-: the log must be a file"),
         Misuse::TableFromInput => {
             message::tell(
+                errors,
                 b"-: the questions are read from standard input, so the table must be a file",
             )
         }
         Misuse::SuFileFromInput => {
             message::tell(
+                errors,
                 b"-: the questions are read from standard input, so the su file must be a file",
             )
         }
         Misuse::UnknownOption(i) => message::tell_of(
+            rt,
+            errors,
             i,
             b"no such option; supertab --help tells the uses",
         ),
-        Misuse::GivenTwice(i) => message::tell_of(i, b"this option is given twice; give it once"),
+        Misuse::GivenTwice(i) => message::tell_of(
+            rt,
+            errors,
+            i,
+            b"this option is given twice; give it once",
+        ),
         Misuse::CannotStandWith(i, j) => message::tell_of_both(
+            rt,
+            errors,
             i,
             b"this option cannot stand with ",
             j,
             b"; leave out one of them",
         ),
         Misuse::OptionBehind(i) => message::tell_of(
+            rt,
+            errors,
             i,
             b"options stand before the name of the file; put it there",
         ),
         Misuse::Surplus(i) => message::tell_of(
+            rt,
+            errors,
             i,
             b"one argument too many; supertab --help tells the uses",
         ),
     }
 }
 
-fn main() {
-    match requested() {
-        Request::Answer(arguments) => answer_table(arguments),
+// What was asked for.
+fn run<R: Env + Files<File = File>>(rt: &R, streams: Streams) {
+    match requested(rt) {
+        Request::Answer(arguments) => answer_table(rt, streams, arguments),
         Request::AnswerSu(arguments) => answer(
+            rt,
+            streams,
             Source::SuFile,
             arguments.file,
             b"the name of the su file",
         ),
-        Request::ReadLog(arguments) => logging::read(LogView::Records, arguments.file),
-        Request::Figures(arguments) => logging::read(LogView::Figures, arguments.file),
-        Request::Check(arguments) => check_table(arguments),
-        Request::CheckSu(arguments) => su::check(arguments.file),
-        Request::Help => help(),
-        Request::Version => {
-            standard_output::print(b"supertab 0.1.0\n");
+        Request::ReadLog(arguments) => {
+            logging::read(rt, streams, LogView::Records, arguments.file)
         }
-        Request::Wrong(misuse) => tell(misuse),
+        Request::Figures(arguments) => {
+            logging::read(rt, streams, LogView::Figures, arguments.file)
+        }
+        Request::Check(arguments) => check_table(rt, streams, arguments),
+        Request::CheckSu(arguments) => su::check(rt, streams, arguments.file),
+        Request::Help => help(streams),
+        Request::Version => {
+            standard_output::print(streams, b"supertab 0.1.0\n");
+        }
+        Request::Wrong(misuse) => tell(rt, streams, misuse),
     }
+}
+
+fn main(rt: HostRuntime) {
+    let streams = Streams {
+        input: rt.stdin(),
+        output: rt.stdout(),
+        errors: rt.stderr(),
+    };
+    run(&rt, streams);
 }
