@@ -4,11 +4,9 @@
 #   make install PREFIX=    program, library, header and manual; DESTDIR is put in front, for packages
 PREFIX = /usr/local
 DESTDIR =
-RT = rt
 
 all:
-	$(RT) check supertab
-	$(RT) staticlib supertab_c
+	tools/build
 
 test:
 	bash .ci/run

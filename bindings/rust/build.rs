@@ -1,5 +1,5 @@
 //! Links the static library: from the folder that `SUPERTAB_LIB_DIR` names, or from the one where
-//! `rt staticlib supertab_c` leaves it in this repository.
+//! `tools/build` leaves it in this repository.
 
 use std::env;
 use std::path::PathBuf;
@@ -15,7 +15,7 @@ fn main() {
     println!("cargo:rerun-if-changed={}", archive.display());
     if !archive.is_file() {
         println!(
-            "cargo:warning=there is no {}: run `rt staticlib supertab_c`, or set SUPERTAB_LIB_DIR",
+            "cargo:warning=there is no {}: run `tools/build`, or set SUPERTAB_LIB_DIR",
             archive.display()
         );
     }

@@ -65,7 +65,7 @@
 //!
 //! A thread that calls the library needs a stack of [`raw::STACK`] bytes; those that Rust starts have more.
 //! The archive, which is built for x86-64 Linux, is looked for in the folder that `SUPERTAB_LIB_DIR` names when the crate is built,
-//! or else in `target/staticlib` of the repository, where `rt staticlib supertab_c` leaves it.
+//! or else in `target/staticlib` of the repository, where `tools/build` leaves it.
 
 mod answer;
 mod cause;
