@@ -1,5 +1,4 @@
 use mathlib.Core.Path.{◌∙◌}
-use Prim.Native.Nat.{◌-◌}
 use native.Mathlib.Omega.{arith}
 use Rattle.variables.proofs.StoreLaws.{told, place_start, place_here, place_on, place_end}
 use Rattle.variables.specs.Contract.{definition_at}

@@ -1,5 +1,4 @@
 use mathlib.Core.Path.{refl, ◌∙◌}
-use Prim.Native.Nat.{◌-◌}
 use native.Mathlib.Omega.{arith}
 use Rattle.text.proofs.Lists.{all_so_far, all_at_end}
 use Rattle.variables.specs.Contract.{literal, verbatim}

@@ -1,5 +1,4 @@
 use mathlib.Core.Path.{sym, ◌∙◌}
-use Prim.Native.Nat.{◌-◌}
 use native.Mathlib.Omega.{arith}
 use Rattle.variables.proofs.FieldLaws.{lays_length, writes_plain}
 use Rattle.variables.proofs.field.text_run.Goals as goal
