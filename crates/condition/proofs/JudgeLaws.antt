@@ -4,7 +4,6 @@ use mathlib.Core.Bool.{Bool, true, false, not, cond, ◌&&◌}
 use mathlib.Core.List.{List}
 use mathlib.Core.Option.{Option, none, some, map}
 use Prim.Native.Nat.{ℕ}
-use borrow.Author.Tests.{not-true, not-false}
 use Rattle.text.specs.Lists.{any}
 use Rattle.text.proofs.Laws.{both_no, both_yes, both_assoc, clash}
 use Rattle.question.specs.Contract.{strings_in}
@@ -27,22 +26,22 @@ module _ (judging : Bool) (a : Asks) (u : List ℕ) (gs : List (List ℕ)) (p : 
   abbrev Applies : Bool → Type 0
   Applies r = r ≡ name_applies judging (sort_in a) u gs p
 
-  pub applies_not : not judging ≡ true → Applies false
+  pub applies_not : judging ≡ false → Applies false
   unfolding name_applies
-  applies_not e = rw (not-true judging e) (go (sort_in a))
+  applies_not e = rw e (go (sort_in a))
     where
       go : (s : Sort) → false ≡ name_applies false s u gs p
       go user = refl
       go group = refl
       go time = refl
 
-  pub applies_user : not judging ≡ false → a ≡ User → Applies (matches p u)
+  pub applies_user : judging ≡ true → a ≡ User → Applies (matches p u)
   unfolding name_applies
-  applies_user j e = rw (e, not-false judging j)
+  applies_user j e = rw (e, j)
 
-  pub applies_group : not judging ≡ false → a ≡ Group → Applies (any (matches p) gs)
+  pub applies_group : judging ≡ true → a ≡ Group → Applies (any (matches p) gs)
   unfolding name_applies
-  applies_group j e = rw (e, not-false judging j)
+  applies_group j e = rw (e, j)
 
   pub applies_time : a ≡ Time → Applies false
   unfolding name_applies

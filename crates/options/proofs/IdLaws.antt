@@ -6,7 +6,6 @@ use mathlib.Core.Option.{Option, some, none, or_else}
 use Prim.Native.Nat.{ℕ, ◌+◌, ◌≤◌, ◌<◌, min}
 use native.Mathlib.Omega.{arith}
 use native.Mathlib.Numerals.{add-one}
-use borrow.Author.Tests.{not-true, not-false}
 use lib.ListN.{length, take, get_or, set}
 use lib.Seq.{take-suc, take-suc-set}
 use Rattle.text.specs.Bytes.{bytes}
@@ -36,16 +35,16 @@ copied a s i h g e = rw (add-one, take-suc-set a i (get_or s i 0) g, take-suc s 
 
 -- the copy of a value that is given, and none of one that is not
 module _ (given : Bool) (v : List ℕ) where
-  pub held : (a : List ℕ) (size i : ℕ) → not given ≡ false → size ≡ min (length v) id_limit → i ≤ size → size ≤ i → take i a ≡ take i v
+  pub held : (a : List ℕ) (size i : ℕ) → given ≡ true → size ≡ min (length v) id_limit → i ≤ size → size ≤ i → take i a ≡ take i v
       → id_in (record { bytes = a; size = size; given = true }) ≡ cond given (some (take id_limit v)) none
   unfolding id_in
   held a size i g e h k p =
       let z : size ≡ i = omega arith in
       let q : take size a ≡ take size v = rw z p in
-      rw (not-false given g) (ap some (q ∙ rw e (take_most id_limit v)))
+      rw g (ap some (q ∙ rw e (take_most id_limit v)))
 
-  pub unheld : {o : Option (List ℕ)} → not given ≡ true → o ≡ none → o ≡ cond given (some (take id_limit v)) none
-  unheld g e = rw (not-true given g) e
+  pub unheld : {o : Option (List ℕ)} → given ≡ false → o ≡ none → o ≡ cond given (some (take id_limit v)) none
+  unheld g e = rw g e
 
 -- a name put into a buffer
 module _ {old new : List ℕ} {n : ℕ} {r : Filled} (a : IdName) (l : length a.bytes ≡ 64) (size : ℕ) where

@@ -1,15 +1,13 @@
-use Prim.Native.Nat.{◌≤◌}
 use native.Mathlib.Omega.{arith}
 use Rattle.pattern.proofs.TopLevel.{no_alternative, braced_few, braced_numbers}
-use lib.ListN.{length}
 use Rattle.condition.proofs.condition.add_found.Goals as goal
 
 -- a flat alternative ends behind the place where it begins, in the pattern
-flat-ends : (c : tie.After-known-told) → (c.before.before.before.before.before.before.before.args.at ≤ c.before.found.given.0.0) × (c.before.found.given.0.0 ≤ length c.before.before.before.before.before.before.before.args.p.now)
-flat-ends c = let w = rw c.before.found.given.1 at c.before.before.before.before.before.before.before.requires.told in (w.0.low, w.0.high)
-
 pub slice_bounds-add_one-count : goal.slice_bounds-add_one-count
-slice_bounds-add_one-count c = let w = flat-ends c in omega (arith, w.0, w.1)
+slice_bounds-add_one-count c = let w = rw c.in-Flat.is at c.requires.told in omega (arith, w.0.low, w.0.high)
+
+pub slice_bounds-add_one-end : goal.slice_bounds-add_one-end
+slice_bounds-add_one-end c = let w = rw c.in-Flat.is at c.requires.told in omega (arith, w.0.low, w.0.high)
 
 pub add_braced-requires : goal.add_braced-requires
 add_braced-requires c = let h = c.requires in let a = c.args in let w = rw c.in-Braced.is at h.told in record { short = h.short; within = h.within; numbers = braced_numbers a.syntax a.p.now a.at h.few _ _ w; few = braced_few a.syntax a.p.now a.at h.few _ _ w }

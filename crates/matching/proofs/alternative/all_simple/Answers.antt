@@ -1,6 +1,5 @@
 use native.Mathlib.Omega.{arith}
 use Prim.Native.Nat.{◌-◌}
-use borrow.Author.Tests.{not-false}
 use Rattle.matching.proofs.AlternativeLaws.{simple_on, simple_end}
 use Rattle.text.proofs.Laws.{clash}
 use Rattle.matching.proofs.alternative.all_simple.Goals as goal
@@ -21,7 +20,7 @@ pub loop-i-smaller : goal.loop-i-smaller
 loop-i-smaller c = omega arith
 
 pub loop-i-preserved : goal.loop-i-preserved
-loop-i-preserved c = let l = c.loop-i in (omega arith, λ w. l.invariant.1 (simple_on _ l.i c.loop-i-test.true (c.is_simple.ensures (not-false _ c.if-not-is_simple.false-raw)) w))
+loop-i-preserved c = let l = c.loop-i in (omega arith, λ w. l.invariant.1 (simple_on _ l.i c.loop-i-test.true (c.is_simple.ensures c.if-not-is_simple.false) w))
 
 pub returns : goal.returns
 returns c = λ e. let l = c.loop-i in l.invariant.1 (simple_end _ l.i c.loop-i-test.false)

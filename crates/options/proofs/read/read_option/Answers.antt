@@ -14,6 +14,9 @@ overflow_add-i c = let t = byte_at _ _ _ (sym c.find_byte.ensures ∙ c.in-At.is
 pub slice_bounds-read_named-count : goal.slice_bounds-read_named-count
 slice_bounds-read_named-count c = let t = byte_at _ _ _ (sym c.find_byte.ensures ∙ c.in-At.is) in omega (arith, t.0)
 
+pub slice_bounds-read_named-start : goal.slice_bounds-read_named-start
+slice_bounds-read_named-start c = let t = byte_at _ _ _ (sym c.find_byte.ensures ∙ c.in-At.is) in omega (arith, t.0)
+
 pub returns-in-Nothing : goal.returns-in-Nothing
 returns-in-Nothing c = option_none _ _ (sym c.find_byte.ensures ∙ c.in-Nothing.is)
 

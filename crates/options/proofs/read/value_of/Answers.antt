@@ -10,6 +10,9 @@ overflow_add-result c = let t = byte_at _ _ _ (sym c.find_byte.ensures ∙ c.in-
 pub slice_bounds-result-count-in-At : goal.slice_bounds-result-count-in-At
 slice_bounds-result-count-in-At c = let t = byte_at _ _ _ (sym c.find_byte.ensures ∙ c.in-At.is) in omega (arith, t.0)
 
+pub slice_bounds-result-start-in-At : goal.slice_bounds-result-start-in-At
+slice_bounds-result-start-in-At c = let t = byte_at _ _ _ (sym c.find_byte.ensures ∙ c.in-At.is) in omega (arith, t.0)
+
 pub returns-in-Nothing : goal.returns-in-Nothing
 returns-in-Nothing c = value_none _ (sym c.find_byte.ensures ∙ c.in-Nothing.is)
 

@@ -14,6 +14,9 @@ overflow_add-i c = let t = byte_at _ _ _ (sym c.find_byte.ensures ∙ c.in-At.is
 pub slice_bounds-between_texts-count : goal.slice_bounds-between_texts-count
 slice_bounds-between_texts-count c = let t = byte_at _ _ _ (sym c.find_byte.ensures ∙ c.in-At.is) in omega (arith, t.0)
 
+pub slice_bounds-between_texts-start : goal.slice_bounds-between_texts-start
+slice_bounds-between_texts-start c = let t = byte_at _ _ _ (sym c.find_byte.ensures ∙ c.in-At.is) in omega (arith, t.0)
+
 pub returns-in-Nothing : goal.returns-in-Nothing
 returns-in-Nothing c = range_one _ _ _ (sym c.find_byte.ensures ∙ c.in-Nothing.is) c.between_texts.ensures
 

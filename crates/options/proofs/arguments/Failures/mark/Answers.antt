@@ -19,6 +19,9 @@ returns-then-end-args c = let l = c.loop-i in let a = c.args in marked_open (pat
 pub slice_bounds-fails-count : goal.slice_bounds-fails-count
 slice_bounds-fails-count c = omega (arith, c.string_end-end.ensures.1)
 
+pub slice_bounds-fails-start : goal.slice_bounds-fails-start
+slice_bounds-fails-start c = omega (arith, c.string_end-end.ensures.1, c.string_end-end.ensures.2 (omega arith))
+
 pub overflow_add-from : goal.overflow_add-from
 overflow_add-from c = let h = c.string_end-end.ensures.2 (omega arith) in let n = c.if-end-args.false in omega arith
 

@@ -7,7 +7,7 @@ use Rattle.options.proofs.IdLaws.{copied, held, unheld}
 use Rattle.options.proofs.ids.IdName.of.Goals as goal
 
 pub returns-then-not-given : goal.returns-then-not-given
-returns-then-not-given c = unheld c.args.given c.args.value.now c.if-not-given.true-raw c.new.ensures
+returns-then-not-given c = unheld c.args.given c.args.value.now c.if-not-given.true c.new.ensures
 
 pub loop-i-init : goal.loop-i-init
 loop-i-init c = (omega arith, refl, refl)
@@ -22,4 +22,4 @@ pub loop-i-preserved : goal.loop-i-preserved
 loop-i-preserved c = let a = c.at_most-size.ensures in let l = c.loop-i in let h : l.i < length c.args.value.now = omega (arith, a.0) in let g : l.i < length l.bytes = omega (arith, a.1) in (omega arith, search rules, copied _ _ _ h g l.invariant.2)
 
 pub returns : goal.returns
-returns c = held c.args.given c.args.value.now _ _ _ c.if-not-given.false-raw c.at_most-size.ensures.0 c.loop-i.invariant.0 c.loop-i-test.false c.loop-i.invariant.2
+returns c = held c.args.given c.args.value.now _ _ _ c.if-not-given.false c.at_most-size.ensures.0 c.loop-i.invariant.0 c.loop-i-test.false c.loop-i.invariant.2

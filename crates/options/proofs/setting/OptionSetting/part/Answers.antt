@@ -5,6 +5,7 @@ use lib.ListN.{take}
 use Rattle.options.specs.Read.{id_limit}
 use Rattle.options.proofs.SetLaws.{part_of, part_id}
 use Rattle.options.specs.Options.{no_options}
+use mir.Syntax.{w32}
 use mir.ValLaws.{to_z-of_z}
 use Rattle.options.proofs.setting.OptionSetting.part.Goals as goal
 
@@ -15,7 +16,7 @@ pub returns-in-SetAuth : goal.returns-in-SetAuth
 returns-in-SetAuth c = λ v. part_of v c.in-SetAuth.is (record { which = refl; auth = c.of.ensures; timeout = refl; nargs = refl })
 
 pub returns-in-SetTimeout : goal.returns-in-SetTimeout
-returns-in-SetTimeout c = λ v. part_of v c.in-SetTimeout.is (record { which = refl; auth = refl; timeout = ap some (to_z-of_z _ _ (search rules)); nargs = refl })
+returns-in-SetTimeout c = λ v. part_of v c.in-SetTimeout.is (record { which = refl; auth = refl; timeout = ap some (to_z-of_z w32 c.in-SetTimeout.m (search rules)); nargs = refl })
 
 pub returns-in-SetNargs : goal.returns-in-SetNargs
 returns-in-SetNargs c = λ v. part_of v c.in-SetNargs.is (record { which = refl; auth = refl; timeout = refl; nargs = refl })
