@@ -1,5 +1,4 @@
 use mathlib.Core.Path.{◌∙◌}
-use Prim.Native.Nat.{◌-◌}
 use native.Mathlib.Omega.{arith}
 use Rattle.glob.proofs.BudgetLaws.{covers_all}
 use Rattle.glob.proofs.SearchLaws.{sought_begins, sought_whole, sought_short, sought_star, sought_end, sought_next, sought_fails, covers_star, covers_next}

@@ -1,4 +1,3 @@
-use Prim.Native.Nat.{◌-◌}
 use native.Mathlib.Omega.{arith}
 use Rattle.glob.proofs.SearchLaws.{try_begins, try_left, try_whole, try_rest, try_star, try_short, try_off, try_on}
 use Rattle.glob.proofs.matcher.try_at.Goals as goal

@@ -1,5 +1,4 @@
 use mathlib.Core.Path.{refl, ◌∙◌}
-use Prim.Native.Nat.{◌-◌}
 use native.Mathlib.Omega.{arith}
 use Rattle.glob.proofs.SetLaws.{order_on, order_off, order_end}
 use Rattle.glob.proofs.set.in_order.Goals as goal

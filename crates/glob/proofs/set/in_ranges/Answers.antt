@@ -1,5 +1,4 @@
 use mathlib.Core.Path.{refl, sym, ◌∙◌}
-use Prim.Native.Nat.{◌-◌}
 use native.Mathlib.Omega.{arith}
 use Rattle.glob.proofs.SetLaws.{covered_on, covered_hit, covered_end}
 use Rattle.glob.proofs.set.in_ranges.Goals as goal

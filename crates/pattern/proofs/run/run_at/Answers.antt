@@ -1,5 +1,4 @@
 use mathlib.Core.Path.{sym, ◌∙◌}
-use Prim.Native.Nat.{◌-◌}
 use native.Mathlib.Omega.{arith}
 use Rattle.pattern.proofs.Runs.{run_end, run_opens, run_stops, run_stray, run_faulty, run_piece, run_plain}
 use Rattle.pattern.proofs.run.run_at.Goals as goal
