@@ -1,6 +1,6 @@
 # The commands of README.md under the usual names. `rt` proves what it builds, and does nothing again that has not changed.
 #   make                    the program target/bin/supertab and the library target/staticlib/libsupertab_c.a
-#   make test               all proofs from nothing, and all tests
+#   make test               all proofs, the edits, and all tests
 #   make install PREFIX=    program, library, header and manual; DESTDIR is put in front, for packages
 PREFIX = /usr/local
 DESTDIR =

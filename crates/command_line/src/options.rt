@@ -33,7 +33,8 @@ pub fn count_options(words: &[u8]) -> usize
     let mut i = 0;
     while i < words.len() {
         let word = words[i];
-        if !belongs_behind(before, word) {
+        let belongs = belongs_behind(before, word);
+        if !belongs {
             return i;
         }
         before = word;
