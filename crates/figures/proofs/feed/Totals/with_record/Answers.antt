@@ -1,4 +1,5 @@
 use mathlib.Core.Path.{sym, ◌∙◌}
+use borrow.Enum.Refused.{opened}
 use Rattle.figures.proofs.Adding.{stored_low, record_stored, record_refused}
 use Rattle.figures.proofs.feed.Totals.with_record.Goals as goal
 
@@ -10,4 +11,4 @@ returns-in-Stored c = record_stored _ c.args.bytes.now _ (sym c.read_record.ensu
 
 pub returns-in_default : goal.returns-in_default
 returns-in_default c = let a = c.args in
-    record_refused _ a.bytes.now _ c.read_record.ensures c.in_default.keys2 (c.with_refused.ensures a.answers.now a.weekdays.now a.hours.now)
+    record_refused _ a.bytes.now _ c.read_record.ensures (opened c.in_default.in_default-own.keys2) (c.with_refused.ensures a.answers.now a.weekdays.now a.hours.now)
