@@ -8,10 +8,6 @@ use Rattle.console.specs.Contract.{magnitude_limit}
 use Rattle.console.proofs.NumberLaws.{magnitude_on, magnitude_off, magnitude_end, magnitude_none, magnitude_start}
 use Rattle.console.proofs.question_line.read_magnitude.Goals as goal
 
--- a byte that is a digit
-range : (c : tie.Else2 invariant-loop decreases-loop) → (48 ≤ get_or c.before.before.before.before.before.before.before.args.s.now c.before.before.before.before.loop.i 0) × (get_or c.before.before.before.before.before.before.before.args.s.now c.before.before.before.before.loop.i 0 ≤ 57)
-range c = digit_range _ (sym c.before.is_digit.ensures ∙ not-false _ c.if2.false)
-
 pub returns-then-s-eq0 : goal.returns-then-s-eq0
 returns-then-s-eq0 c = magnitude_none _ c.if-s-eq0.true
 
@@ -28,13 +24,13 @@ pub overflow_mul-v : goal.overflow_mul-v
 overflow_mul-v c = omega arith
 
 pub overflow_sub-b : goal.overflow_sub-b
-overflow_sub-b c = omega (arith, (range c).0)
+overflow_sub-b c = let r = digit_range _ (sym c.is_digit.ensures ∙ not-false _ c.if-not-is_digit.false-raw) in omega arith
 
 pub overflow_cast-b : goal.overflow_cast-b
-overflow_cast-b c = omega (arith, (range c).1)
+overflow_cast-b c = let r = digit_range _ (sym c.is_digit.ensures ∙ not-false _ c.if-not-is_digit.false-raw) in omega arith
 
 pub overflow_add-v : goal.overflow_add-v
-overflow_add-v c = omega (arith, (range c).1, c.loop-i.invariant.1)
+overflow_add-v c = let r = digit_range _ (sym c.is_digit.ensures ∙ not-false _ c.if-not-is_digit.false-raw) in omega arith
 
 pub overflow_add-i : goal.overflow_add-i
 overflow_add-i c = omega arith

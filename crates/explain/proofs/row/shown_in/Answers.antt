@@ -1,4 +1,5 @@
 use mathlib.Core.Path.{sym, ◌∙◌}
+use borrow.Enum.Refused.{opened}
 use Rattle.explain.proofs.RowLaws.{shown_accepted, shown_refused, shown_tab, shown_space, shown_low, shown_delete, shown_other}
 use Rattle.explain.proofs.row.shown_in.Goals as goal
 
@@ -6,7 +7,7 @@ pub returns-in-Refused : goal.returns-in-Refused
 returns-in-Refused c = shown_refused _ c.in-Line.is (sym c.class_of.ensures ∙ c.in-Refused.is)
 
 pub returns-in_default : goal.returns-in_default
-returns-in_default c = shown_accepted _ c.class_of.result c.in-Line.is c.in_default.keys2 c.class_of.ensures
+returns-in_default c = shown_accepted _ c.class_of.result c.in-Line.is (opened c.in_default.in_default-own.keys2) c.class_of.ensures
 
 pub returns-then-b-eq9 : goal.returns-then-b-eq9
 returns-then-b-eq9 c = shown_tab _ c.in-Caret.is c.if-b-eq9.true

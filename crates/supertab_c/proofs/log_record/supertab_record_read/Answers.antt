@@ -1,3 +1,4 @@
+use borrow.Enum.Refused.{opened}
 use Rattle.supertab_c.proofs.RecordLaws.{read_short, read_stored, read_refused}
 use Rattle.supertab_c.proofs.log_record.supertab_record_read.Goals as goal
 
@@ -8,4 +9,4 @@ pub returns-in-Stored : goal.returns-in-Stored
 returns-in-Stored c = read_stored _ c.args.fields.now c.if-fields-lt-LENGTH.false _ c.read_record-record.ensures _ _ c.before.before.before.before.«record».given.1 c.put_fields.ensures
 
 pub returns-in_default : goal.returns-in_default
-returns-in_default c = read_refused _ c.args.fields.now c.if-fields-lt-LENGTH.false _ c.read_record-record.ensures _ c.in_default.keys2 c.number.ensures
+returns-in_default c = read_refused _ c.args.fields.now c.if-fields-lt-LENGTH.false _ c.read_record-record.ensures _ (opened c.in_default.in_default-own.keys2) c.number.ensures
