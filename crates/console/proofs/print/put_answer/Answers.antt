@@ -13,7 +13,7 @@ pub returns-in-2 : goal.returns-in-2
 returns-in-2 c = wrote_as c.put_all.ensures (none_text _ _ _ (c.number_of-number.ensures _) c.in-2.is)
 
 pub returns-in-3-to-5 : goal.returns-in-3-to-5
-returns-in-3-to-5 c = let r = c.in_default-1.rest in wrote_as (rw c.place_of.ensures at c.put_stop.ensures) (stopped_text _ _ _ (c.number_of-number.ensures _) (omega (arith, r.0.0.1, r.0.1, r.1)) (omega arith))
+returns-in-3-to-5 c = wrote_as (rw c.place_of.ensures at c.put_stop.ensures) (stopped_text _ _ _ (c.number_of-number.ensures _) (omega arith) (omega arith))
 
 pub returns-in-10-to-18 : goal.returns-in-10-to-18
 returns-in-10-to-18 c = wrote_as (rw c.place_of-in-10-to-18.ensures at c.put_refusal.ensures) (refused_text_law _ _ _ (c.number_of-number.ensures _) (omega arith))

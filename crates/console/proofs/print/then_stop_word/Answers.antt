@@ -1,3 +1,4 @@
+use native.Mathlib.Omega.{arith}
 use borrow.Author.Tests.{ne_eqb}
 use Rattle.console.proofs.print.then_stop_word.Goals as goal
 
@@ -8,4 +9,4 @@ pub returns-in-4 : goal.returns-in-4
 returns-in-4 c = rw c.in-4.is c.then_all-in-4.ensures
 
 pub returns-in_default : goal.returns-in_default
-returns-in_default c = rw (ne_eqb _ _ c.in_default.rest.0.1, ne_eqb _ _ c.in_default.rest.1) c.then_all-in_default.ensures
+returns-in_default c = rw (ne_eqb c.args.number 3 (omega arith), ne_eqb c.args.number 4 (omega arith)) c.then_all-in_default.ensures

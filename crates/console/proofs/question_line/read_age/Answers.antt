@@ -10,6 +10,9 @@ returns-then-equal c = age_never _ (sym c.equal.ensures ∙ c.if-equal.true)
 pub slice_bounds-read_minutes-count : goal.slice_bounds-read_minutes-count
 slice_bounds-read_minutes-count c = let h = starts_length _ _ (sym c.starts_with.ensures ∙ c.if-starts_with.true) in omega arith
 
+pub slice_bounds-read_minutes-start : goal.slice_bounds-read_minutes-start
+slice_bounds-read_minutes-start c = let h = starts_length _ _ (sym c.starts_with.ensures ∙ c.if-starts_with.true) in omega arith
+
 pub returns-then-starts_with : goal.returns-then-starts_with
 returns-then-starts_with c = age_below _ (sym c.equal.ensures ∙ c.if-equal.false) (sym c.starts_with.ensures ∙ c.if-starts_with.true) c.read_minutes.ensures
 
