@@ -68,7 +68,7 @@ module _ (sc other : Scope) where
   word_alike g s define_word fs h = rw (definition_alike fs h)
   word_alike g s global_word fs h = rw (global_alike fs h)
   word_alike no_deeper s if_word fs h = refl
-  word_alike (deeper g) s if_word fs h = then_alike (comparison other fs) (comparison_alike fs h) (rest_alike _ _ s (drop 3 fs) (g (drop 3 fs) (each_drop _ 3 fs h)))
+  word_alike (deeper {d} {e} g) s if_word fs h = then_alike (comparison other fs) (comparison_alike fs h) (rest_alike d e s (drop 3 fs) (g (drop 3 fs) (each_drop _ 3 fs h)))
 
 -- ---- an entry's verdict does not look at the host
 verdict_alike : (k : List ℕ) (q : Question) (o : Options) (ps : List ArgumentPattern) (e : Entry) → verdict_of q o ps e ≡ verdict_of (with_host k q) o ps e

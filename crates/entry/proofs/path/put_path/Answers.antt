@@ -1,20 +1,11 @@
-use mathlib.Core.Path.{refl, ◌∙◌}
-use mathlib.Core.Logic.{inl, inr}
-use Prim.Native.Nat.{◌-◌}
+use mathlib.Core.Path.{◌≡◌, refl, ◌∙◌}
 use native.Mathlib.Omega.{arith}
 use borrow.Author.Tests.{eq-eqb, ne_eqb}
 use Rattle.text.specs.Contract.{Wrote}
 use Rattle.text.proofs.Buffers.{wrote_length, wrote_done, wrote_then, wrote_full, wrote_as, wrote_none}
 use Rattle.entry.proofs.PathLaws.{piece, starred_next, starred_end}
 use Rattle.entry.proofs.path.put_path.Goals as goal
-
--- where the two arms meet: the byte's piece was written
-part : (c : tie.Joined1 invariant-loop decreases-loop) → (let l = c.before.before.before.loop in let a = c.before.before.before.before.before.before.before.args in Wrote l.out c.if1.out l.m (piece a.command.now a.path.now l.i) c.if1.p)
-part c =
-    elim c.if1.branch [
-      | inl w ↦ rw (w.5, w.6, eq-eqb _ _ w.0.taken) w.2.ensures
-      | inr w ↦ rw (w.5, w.6, ne_eqb _ _ w.0.left) w.2.ensures
-    ]
+use Rattle.entry.proofs.path.put_path.Goals.{then-b-eq42, else-b-eq42}
 
 pub loop-i-init : goal.loop-i-init
 loop-i-init c = (omega arith, omega arith, refl, λ new q v. v)
@@ -22,13 +13,14 @@ loop-i-init c = (omega arith, omega arith, refl, λ new q v. v)
 pub bounds-path-i : goal.bounds-path-i
 bounds-path-i c = omega arith
 
-pub shape_of-out-in_default : goal.shape_of-out-in_default
-shape_of-out-in_default c = omega (arith, wrote_length (part c.before.before))
-
 pub returns-in_default : goal.returns-in_default
-returns-in_default c = let l = c.loop-i in
+returns-in_default c =
+    let l = c.loop-i in
+    let a = c.args in
     let h = c.loop-i-test.true in
-    l.invariant.3 _ _ (wrote_as (wrote_full (part c.before.before) c.in_default.is _) (starred_next _ _ _ h))
+    -- where the two arms meet: the byte's piece was written
+    let p : Wrote l.out c.if-b-eq42.out l.m (piece a.command.now a.path.now l.i) c.if-b-eq42.p = elim c.if-b-eq42.branch [ then-b-eq42 w ↦ rw (w.out-is, w.p-is, eq-eqb _ _ w.if-b-eq42.true) w.put_all-p.ensures | else-b-eq42 w ↦ rw (w.out-is, w.p-is, ne_eqb _ _ w.if-b-eq42.false) w.put-p.ensures ] in
+    l.invariant.3 _ _ (wrote_as (wrote_full p c.in_default.is _) (starred_next _ _ _ h))
 
 pub overflow_add-i : goal.overflow_add-i
 overflow_add-i c = omega arith
@@ -37,9 +29,12 @@ pub loop-i-smaller : goal.loop-i-smaller
 loop-i-smaller c = omega arith
 
 pub loop-i-preserved : goal.loop-i-preserved
-loop-i-preserved c = let l = c.loop-i in
+loop-i-preserved c =
+    let l = c.loop-i in
+    let a = c.args in
     let h = c.loop-i-test.true in
-    let p = part c.before.before.before in
+    -- where the two arms meet: the byte's piece was written
+    let p : Wrote l.out c.if-b-eq42.out l.m (piece a.command.now a.path.now l.i) c.if-b-eq42.p = elim c.if-b-eq42.branch [ then-b-eq42 w ↦ rw (w.out-is, w.p-is, eq-eqb _ _ w.if-b-eq42.true) w.put_all-p.ensures | else-b-eq42 w ↦ rw (w.out-is, w.p-is, ne_eqb _ _ w.if-b-eq42.false) w.put-p.ensures ] in
     let e = c.in-Done.is in
     let d = wrote_done p e in
     let k = wrote_length p in

@@ -10,12 +10,9 @@ pub returns-in-Fault : goal.returns-in-Fault
 returns-in-Fault c = line_fault _ _ _ _ _ _ _ _ (definition_fault _ _ c.read_definition.ensures.reading c.in-Fault.is)
 
 pub returns-in-Fault-place_for : goal.returns-in-Fault-place_for
-returns-in-Fault-place_for c = let k = c.k-1.given in
-    let d = definition_good _ _ c.read_definition.ensures.reading k.1 in
-    line_refused _ _ _ _ _ _ _ _ k.0.0 k.0.1.0 d (rw c.in-Fault-place_for.is at c.place_for.ensures)
+returns-in-Fault-place_for c = let d = definition_good _ _ c.read_definition.ensures.reading c.in-Good.is in line_refused _ _ _ _ _ _ _ _ c.in-Good.k c.in-Good.n d (rw c.in-Fault-place_for.is at c.place_for.ensures)
 
 pub returns-in-At : goal.returns-in-At
-returns-in-At c = let k = c.k-1.given in
-    let r = c.read_definition.ensures in
-    let w = definition_within _ _ r.within k.1 in
-    line_placed _ _ _ _ _ _ _ _ k.0.0 k.0.1.0 (definition_good _ _ r.reading k.1) w.0 w.1 (rw c.in-At.is at c.place_for.ensures)
+returns-in-At c = let r = c.read_definition.ensures in
+    let w = definition_within _ _ r.within c.in-Good.is in
+    line_placed _ _ _ _ _ _ _ _ c.in-Good.k c.in-Good.n (definition_good _ _ r.reading c.in-Good.is) w.0 w.1 (rw c.in-At.is at c.place_for.ensures)

@@ -15,7 +15,7 @@ returns-then-from-at_most c = let a = c.args in
     record { reading = name_missing _ (fields_end a.text.now a.ends.now a.count c.at_most.ensures.0 a.from c.if-from-at_most.true); within = tt }
 
 pub slice_bounds-check_name-end : goal.slice_bounds-check_name-end
-slice_bounds-check_name-end c = let f = text_fits c.field_text.ensures c.in-Text.is in let l : length c.field_text.new.1.1.1.1.1.1.0 ≡ 1024 = search rules in sym (length-take-le _ _ (omega (arith, f, l)))
+slice_bounds-check_name-end c = let f = text_fits c.field_text.ensures c.in-Text.is in let l : length c.field_text.new.out ≡ 1024 = search rules in sym (length-take-le _ _ (omega (arith, f, l)))
 
 pub returns-in-Fault-check_name : goal.returns-in-Fault-check_name
 returns-in-Fault-check_name c = let a = c.args in
@@ -39,7 +39,7 @@ returns-in-Text-read_text c = let a = c.args in
     let g = fields_next a.text.now a.ends.now a.count c.at_most.ensures.0 a.from c.if-from-at_most.false c.field.ensures in
     let n = then_value define_name (text_value c.field_text.ensures c.in-Text.is) (checked_good _ c.check_name.ensures c.in_default.is) in
     let u = c.field_text in
-    let l : length u.new.1.1.1.1.1.1.0 ≡ 1024 = search rules in
+    let l : length u.new.out ≡ 1024 = search rules in
     let t = c.read_text.ensures in
     let m = c.in-Text-read_text.is in
     record { reading = named_text _ g n (reading_text _ t.reading m); within = (omega (arith, text_fits u.ensures c.in-Text.is, l), length_fits t.within m) }

@@ -20,7 +20,7 @@ returns-then-from-most c = let a = c.args in
     record { reading = first_missing (field_as sc define_text) (last_read sc) (fields_end a.text.now a.ends.now a.count c.at_most-most.ensures.0 a.from c.if-from-most.true); within = omega arith }
 
 pub slice_bounds-check_text-end : goal.slice_bounds-check_text-end
-slice_bounds-check_text-end c = let f = text_fits c.field_text.ensures c.in-Text.is in let l : length c.field_text.new.1.1.1.1.1.1.0 ≡ 1024 = search rules in sym (length-take-le _ _ (omega (arith, f, l)))
+slice_bounds-check_text-end c = let f = text_fits c.field_text.ensures c.in-Text.is in let l : length c.field_text.new.out ≡ 1024 = search rules in sym (length-take-le _ _ (omega (arith, f, l)))
 
 pub returns-in-Fault-check_text : goal.returns-in-Fault-check_text
 returns-in-Fault-check_text c = let a = c.args in
@@ -51,5 +51,5 @@ returns-else-from-most-2 c = let a = c.args in
     let u = c.field_text in
     let n = c.in-Text.is in
     let t = then_value define_text (text_value u.ensures n) (checked_good _ c.check_text.ensures c.in_default.is) in
-    let l : length u.new.1.1.1.1.1.1.0 ≡ 1024 = search rules in
+    let l : length u.new.out ≡ 1024 = search rules in
     record { reading = first_value (field_as sc define_text) (last_read sc) g t (text_last sc _ h); within = omega (arith, text_fits u.ensures n, l) }

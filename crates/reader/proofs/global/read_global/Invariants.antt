@@ -1,5 +1,5 @@
 use mathlib.Core.Path.{◌≡◌}
-use mathlib.Core.List.{List}
+use mathlib.Core.List.{List, []}
 use Prim.Native.Nat.{◌-◌}
 use lib.ListN.{length}
 use Rattle.line.specs.Contract.{fields_in}
