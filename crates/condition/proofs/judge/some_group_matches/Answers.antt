@@ -1,6 +1,5 @@
 use mathlib.Core.Path.{refl, sym, ◌∙◌}
 use Rattle.question.proofs.ZeroEnded.{some_open, some_hit, some_on, some_end_law}
-use Prim.Native.Nat.{◌-◌}
 use native.Mathlib.Omega.{arith}
 use Rattle.condition.proofs.judge.some_group_matches.Goals as goal
 

@@ -1,5 +1,4 @@
 use native.Mathlib.Omega.{arith}
-use Prim.Native.Nat.{◌-◌}
 use Rattle.matching.proofs.AlternativeLaws.{simple_on, simple_end}
 use Rattle.text.proofs.Laws.{clash}
 use Rattle.matching.proofs.alternative.all_simple.Goals as goal

@@ -1,5 +1,4 @@
 use mathlib.Core.Path.{sym, ◌∙◌}
-use Prim.Native.Nat.{◌-◌}
 use native.Mathlib.Omega.{arith}
 use Rattle.matching.proofs.AlternativeLaws.{parts_here, parts_end, parts_next}
 use Rattle.matching.proofs.alternative.part_end.Goals as goal

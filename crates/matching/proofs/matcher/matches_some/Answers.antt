@@ -1,5 +1,4 @@
 use mathlib.Core.Path.{refl, sym, ◌∙◌}
-use Prim.Native.Nat.{◌-◌}
 use native.Mathlib.Omega.{arith}
 use Rattle.matching.proofs.MatchLaws.{some_on, some_hit, some_end_law}
 use Rattle.matching.proofs.matcher.matches_some.Goals as goal
