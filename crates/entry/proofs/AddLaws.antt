@@ -31,7 +31,7 @@ use Rattle.entry.specs.declared.position.Position.TheVariants.{First, Second}
 use Rattle.entry.specs.declared.position.FieldKind.TheVariants.{Pair as PairField, Command, Path as PathField, Other}
 use Rattle.entry.specs.declared.entry.FieldOutcome.TheVariants.{Good, Fault}
 use Rattle.entry.specs.declared.entry.Added.{Added}
-use Rattle.entry.specs.Field.{Entry, entry, no_field, followed, Position, first, second, pairs, rest, FieldRead, field_read, a_pair, condition_part, full_path, has_pair, pair_at, pair_of, command_of, path_field, option_or, other_of, field_of}
+use Rattle.entry.specs.Field.{Entry, no_field, followed, Position, first, second, pairs, rest, FieldRead, field_read, a_pair, condition_part, full_path, has_pair, pair_at, pair_of, command_of, path_field, option_or, other_of, field_of}
 use Rattle.entry.specs.Contract.{taken, command_test, command_read, paired_with, waiting_with, rest_with, masked, Stands, NoOther, Early, Keeps, Holds, Adds, path_behind, kind_by}
 use Rattle.entry.proofs.KindLaws.{pair_found, command_found, path_found, no_other_first, other_found}
 use Rattle.entry.proofs.HoldsLaws.{pair_kept, command_kept, option_kept, users_kept, times_kept}

@@ -12,6 +12,9 @@ impl Path {
     pub const BYTES: usize = 1024;
 }
 
+// What the command stands for in a path.
+const STAR: u8 = b'*';
+
 // The path with each `*` replaced by the command, once, from the buffer's beginning on, or that it does not fit.
 pub fn put_path(path: &[u8], command: &[u8], out: &mut [u8]) -> Filled
     ensures { Wrote out.old out.new 0 (starred command.now path.now) result }
@@ -20,7 +23,7 @@ pub fn put_path(path: &[u8], command: &[u8], out: &mut [u8]) -> Filled
     let mut i = 0;
     while i < path.len() {
         let b = path[i];
-        let p = if b == b'*' {
+        let p = if b == STAR {
             put_all(out, m, command)
         } else {
             put(out, m, b)
