@@ -1,5 +1,5 @@
 // The whole call: the buffer, the question, then the table.
-ghost use Rattle.answer.specs.Answer.{result};
+ghost use Rattle.answer.specs.Answer.{result as result_with};
 ghost use Rattle.answer.specs.Contract.{asking, Promised};
 
 use super::Answer;
@@ -20,10 +20,10 @@ pub fn answer(
     args: &[u8],
     buffer: &mut [u8],
 ) -> Answer
-    ensures* { λ r. ⌜ Promised
+    ensures { Promised
         table.now
         (asking command.now user.now groups.now host.now minute last args.now)
-        buffer.old (result r buffer.new) ⌝ }
+        buffer.old (result_with result buffer.new) }
 {
     if buffer.len() < Answer::BUFFER {
         return Answer::SmallBuffer;

@@ -2,7 +2,7 @@
 ghost use Rattle.std.specs.Prelude.{◌≤◌, ◌≡◌, length};
 ghost use Rattle.fault.specs.Fault.{value};
 ghost use Rattle.table_lines.specs.Contract.{decided_in, ended_by};
-ghost use Rattle.answer.specs.Answer.{least_buffer, result};
+ghost use Rattle.answer.specs.Answer.{least_buffer, result as result_with};
 ghost use Rattle.answer.specs.Meaning.{settled};
 ghost use Rattle.answer.specs.Contract.{ReadsTable};
 
@@ -18,8 +18,8 @@ use text::number::at_most;
 
 // The answer where no line has a fault.
 fn resolve(decision: Decision, path: &[u8; Path::BYTES], buffer: &mut [u8]) -> Answer
-    ensures* { λ r. ⌜ (least_buffer ≤ length buffer.old
-        → result r buffer.new ≡ settled buffer.old (value (decided_in decision path.now))) ⌝ }
+    ensures { least_buffer ≤ length buffer.old
+        → result_with result buffer.new ≡ settled buffer.old (value (decided_in decision path.now)) }
 {
     if !decision.made {
         return Answer::NoEntry;
@@ -40,8 +40,8 @@ fn resolve(decision: Decision, path: &[u8; Path::BYTES], buffer: &mut [u8]) -> A
 
 // The answer of the lines: the first fault, a line that is cut, or the decision.
 fn settle(read: LinesRead, path: &[u8; Path::BYTES], buffer: &mut [u8]) -> Answer
-    ensures* { λ r. ⌜ (least_buffer ≤ length buffer.old
-        → result r buffer.new ≡ settled buffer.old (ended_by (decided_in read.decision path.now) read.outcome)) ⌝ }
+    ensures { least_buffer ≤ length buffer.old
+        → result_with result buffer.new ≡ settled buffer.old (ended_by (decided_in read.decision path.now) read.outcome) }
 {
     let outcome = read.outcome;
     match outcome {
@@ -63,9 +63,9 @@ pub fn read_table(
     args: &[u8],
     buffer: &mut [u8],
 ) -> Answer
-    ensures* { λ r. ⌜ ReadsTable
+    ensures { ReadsTable
         table.now command.now user.now groups.now host.now
-        minute last args.now buffer.old buffer.new r ⌝ }
+        minute last args.now buffer.old buffer.new result }
 {
     match acceptance_of(table) {
         Acceptance::Long => Answer::LongTable,

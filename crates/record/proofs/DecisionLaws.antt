@@ -15,13 +15,11 @@ use Rattle.question.specs.declared.LastAuthentication.{LastAuthentication}
 use Rattle.question.specs.Question.{Question}
 use Rattle.question.proofs.Told.{question_told, good_told}
 use Rattle.answer.specs.declared.Answer.{Answer}
+use Rattle.answer.specs.declared.Granted.{Granted}
 use Rattle.answer.specs.declared.Answer.TheVariants.{Permit, Password, NoEntry, StoppedByNargs, StoppedByArgument, StoppedByPath, MalformedQuestion, LongTable, RefusedByte, CutShort, RefusedLine, SmallBuffer}
 use Rattle.line.specs.Line.{table_limit}
 use Rattle.answer.specs.Answer.{least_buffer, Outcome, result, grant_in, told_of, told_by, deciding_line}
 use Rattle.answer.specs.Meaning.{Asked, asks, read_table, answer_of}
-use Rattle.answer.specs.contracts.Answer.{the_type}
-use denote.Enum.Declared.{tag_of}
-use types.Run.{OneOf, miss}
 use Rattle.record.specs.declared.Written.{Written}
 use Rattle.record.specs.declared.Written.TheVariants.{Done}
 use Rattle.record.specs.declared.Recorded.TheVariants.{Writer, LongLine}
@@ -32,43 +30,40 @@ use Rattle.record.proofs.RoundTrip.{writer_takes}
 use Rattle.record.proofs.WithinLaws.{Within, answer_within}
 
 -- ---- what the code asks of an answer
--- the answers without a deciding line
-abbrev lineless : List ℕ
-lineless = 2 ∷ 6 ∷ 7 ∷ 8 ∷ 9 ∷ 10 ∷ 11 ∷ []
-
-pub no_line : (a : Answer) (b : List ℕ) → OneOf lineless (tag_of the_type a) → 0 ≡ deciding_line (result a b)
+-- every other answer has no deciding line
+pub no_line : (a : Answer) (b : List ℕ)
+    → ((g : Granted) → a ≡ Permit g → ⊥) → ((g : Granted) → a ≡ Password g → ⊥)
+    → ((l : ℕ) → a ≡ StoppedByNargs l → ⊥) → ((l : ℕ) → a ≡ StoppedByArgument l → ⊥) → ((l : ℕ) → a ≡ StoppedByPath l → ⊥)
+    → 0 ≡ deciding_line (result a b)
 unfolding deciding_line told_of
-no_line (Permit g) b h = absurd (miss lineless 0 tt h)
-no_line (Password g) b h = absurd (miss lineless 1 tt h)
-no_line NoEntry b h = refl
-no_line (StoppedByNargs l) b h = absurd (miss lineless 3 tt h)
-no_line (StoppedByArgument l) b h = absurd (miss lineless 4 tt h)
-no_line (StoppedByPath l) b h = absurd (miss lineless 5 tt h)
-no_line MalformedQuestion b h = refl
-no_line LongTable b h = refl
-no_line (RefusedByte p) b h = refl
-no_line (CutShort p) b h = refl
-no_line (RefusedLine c p) b h = refl
-no_line SmallBuffer b h = refl
+no_line (Permit g) b permit password nargs argument path = absurd (permit g refl)
+no_line (Password g) b permit password nargs argument path = absurd (password g refl)
+no_line NoEntry b permit password nargs argument path = refl
+no_line (StoppedByNargs l) b permit password nargs argument path = absurd (nargs l refl)
+no_line (StoppedByArgument l) b permit password nargs argument path = absurd (argument l refl)
+no_line (StoppedByPath l) b permit password nargs argument path = absurd (path l refl)
+no_line MalformedQuestion b permit password nargs argument path = refl
+no_line LongTable b permit password nargs argument path = refl
+no_line (RefusedByte p) b permit password nargs argument path = refl
+no_line (CutShort p) b permit password nargs argument path = refl
+no_line (RefusedLine c p) b permit password nargs argument path = refl
+no_line SmallBuffer b permit password nargs argument path = refl
 
--- the answers that are no permit
-abbrev others : List ℕ
-others = 2 ∷ 3 ∷ 4 ∷ 5 ∷ 6 ∷ 7 ∷ 8 ∷ 9 ∷ 10 ∷ 11 ∷ []
-
-pub no_auth : (a : Answer) (b : List ℕ) → OneOf others (tag_of the_type a) → false ≡ auth_beside (told_of a b).beside
+-- what is no permit has no auth
+pub no_auth : (a : Answer) (b : List ℕ) → ((g : Granted) → a ≡ Permit g → ⊥) → ((g : Granted) → a ≡ Password g → ⊥) → false ≡ auth_beside (told_of a b).beside
 unfolding told_of
-no_auth (Permit g) b h = absurd (miss others 0 tt h)
-no_auth (Password g) b h = absurd (miss others 1 tt h)
-no_auth NoEntry b h = refl
-no_auth (StoppedByNargs l) b h = refl
-no_auth (StoppedByArgument l) b h = refl
-no_auth (StoppedByPath l) b h = refl
-no_auth MalformedQuestion b h = refl
-no_auth LongTable b h = refl
-no_auth (RefusedByte p) b h = refl
-no_auth (CutShort p) b h = refl
-no_auth (RefusedLine c p) b h = refl
-no_auth SmallBuffer b h = refl
+no_auth (Permit g) b permit password = absurd (permit g refl)
+no_auth (Password g) b permit password = absurd (password g refl)
+no_auth NoEntry b permit password = refl
+no_auth (StoppedByNargs l) b permit password = refl
+no_auth (StoppedByArgument l) b permit password = refl
+no_auth (StoppedByPath l) b permit password = refl
+no_auth MalformedQuestion b permit password = refl
+no_auth LongTable b permit password = refl
+no_auth (RefusedByte p) b permit password = refl
+no_auth (CutShort p) b permit password = refl
+no_auth (RefusedLine c p) b permit password = refl
+no_auth SmallBuffer b permit password = refl
 
 -- ---- what the code answers
 module _ (o : Outcome) (minute : WeekMinute) (age : LastAuthentication) (old : List ℕ) (line : ℕ) (e : line ≡ deciding_line o) where

@@ -1,6 +1,6 @@
 // From the call's answer to a record.
 ghost use Rattle.std.specs.Prelude.{ℕ, ◌≡◌, List};
-ghost use Rattle.answer.specs.Answer.{result, deciding_line, told_of};
+ghost use Rattle.answer.specs.Answer.{result as result_with, deciding_line, told_of};
 ghost use Rattle.record.specs.Decision.{auth_beside};
 ghost use Rattle.record.specs.Contract.{Records};
 
@@ -12,7 +12,7 @@ use question::{LastAuthentication, WeekMinute};
 
 // The deciding line, 0 where there is none.
 fn line_of(answer: Answer) -> usize
-    ensures* { λ r. ⌜ ((b : List ℕ) → r ≡ deciding_line (result answer b)) ⌝ }
+    ensures { (b : List ℕ) → result ≡ deciding_line (result_with answer b) }
 {
     match answer {
         Answer::Permit(granted) => granted.line,
@@ -26,7 +26,7 @@ fn line_of(answer: Answer) -> usize
 
 // The effective auth, which only a permit has.
 fn auth_of(answer: Answer) -> bool
-    ensures* { λ r. ⌜ ((b : List ℕ) → r ≡ auth_beside (told_of answer b).beside) ⌝ }
+    ensures { (b : List ℕ) → result ≡ auth_beside (told_of answer b).beside }
 {
     match answer {
         Answer::Permit(granted) => granted.auth,
@@ -42,7 +42,7 @@ pub fn record_answer(
     age: LastAuthentication,
     out: &mut [u8],
 ) -> Recorded
-    ensures* { λ r. ⌜ ((b : List ℕ) → Records (result answer b) minute age out.old out.new r) ⌝ }
+    ensures { (b : List ℕ) → Records (result_with answer b) minute age out.old out.new result }
 {
     let line = line_of(answer);
     if line > 65535 {

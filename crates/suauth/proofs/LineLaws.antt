@@ -18,21 +18,12 @@ use Rattle.line.proofs.PlainLaws.{plain_ends, plain_cut}
 use Rattle.suauth.specs.declared.SuAnswer.{SuAnswer}
 use Rattle.suauth.specs.declared.SuAnswer.TheVariants.{CutShort, MalformedLine}
 use Rattle.suauth.specs.declared.rule.LineTold.{LineTold}
-use Rattle.suauth.specs.contracts.rule.LineTold.{the_type}
 use Rattle.suauth.specs.Rule.{Rule, Malformed, malformed, rule_in}
 use Rattle.suauth.specs.Meaning.{Question, applies, Decision, decided_by, line_read, settled, lines_give}
 use Rattle.suauth.specs.Contract.{when_applies, line_tells, decided_at}
-use types.Run.{OneOf, miss}
-use denote.Enum.Declared.{tag_of}
 use Rattle.suauth.specs.declared.rule.LineTold.TheVariants.{Malformed as BadLine, Nothing as NoneHere, Rule as RuleHere}
 
 -- ---- what a line comes to, by what it tells
--- what is neither of the other two is malformed
-pub not_bad : (told : LineTold) → OneOf (1 ∷ 2 ∷ []) (tag_of the_type told) → told ≡ BadLine → ⊥
-not_bad BadLine h e = miss (1 ∷ 2 ∷ []) 0 tt h
-not_bad NoneHere h e = clash cc
-not_bad (RuleHere a) h e = clash cc
-
 module _ (q : Question) where
   told_bad : (r : Reading Malformed (Option Rule)) → line_tells q r ≡ BadLine → r ≡ fault malformed
   unfolding line_tells

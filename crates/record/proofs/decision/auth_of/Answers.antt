@@ -13,4 +13,4 @@ unfolding told_of grant_in
 returns-in-Password c = λ b. sym (ap (λ a. auth_beside (told_of a b).beside) c.in-Password.is)
 
 pub returns-in_default : goal.returns-in_default
-returns-in_default c = λ b. no_auth c.args.answer b c.in_default.keys3
+returns-in_default c = λ b. no_auth c.args.answer b c.in_default.not-Permit c.in_default.not-Password

@@ -24,4 +24,6 @@ unfolding deciding_line told_of grant_in
 returns-in-StoppedByPath c = λ b. sym (ap (λ a. deciding_line (result a b)) c.in-StoppedByPath.is)
 
 pub returns-in_default : goal.returns-in_default
-returns-in_default c = λ b. no_line c.args.answer b c.in_default.keys6
+returns-in_default c = λ b.
+    let o = c.in_default in
+    no_line c.args.answer b o.not-Permit o.not-Password o.not-StoppedByNargs o.not-StoppedByArgument o.not-StoppedByPath

@@ -6,6 +6,6 @@ pub returns-then-line-gt65535 : goal.returns-then-line-gt65535
 returns-then-line-gt65535 c = λ b. line_long (result c.args.answer b) _ _ _ _ (c.line_of-line.ensures b) c.if-line-gt65535.true
 
 pub returns : goal.returns
-returns c = let p = c.before.before.before.before.before in λ b.
-    line_held (result p.before.before.before.before.args.answer b) _ _ _ _ (p.before.before.line-of.ensures b) _ _ _ _ p.before.if1.false (p.number_of_lem.ensures b) (c.auth_of.ensures b)
+returns c = λ b.
+    line_held (result c.args.answer b) _ _ _ _ (c.line_of-line.ensures b) _ _ _ _ c.if-line-gt65535.false (c.number_of.ensures b) (c.auth_of.ensures b)
     c.write_record-written.ensures

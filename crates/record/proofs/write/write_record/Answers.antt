@@ -20,9 +20,8 @@ packed-n-requires c = let a = c.args in
     omega (arith, known_most a.number (sym c.is_known.ensures ∙ not-false _ c.if-not-is_known.false-raw), stored_most a.age)
 
 pub returns : goal.returns
-returns c = let p = c.before.before.before.before in
-    write_done _ _ p.before.before.before.before.before.before.before.before.if1.false
-    (sym p.before.before.before.before.before.before.before.is_Known.ensures ∙ not-false _ p.before.before.before.before.before.before.if2.false)
-    p.before.before.before.before.before.if3.false _ _ _ _ _ _
-    p.before.before.before.before.Kept-line.ensures p.before.before.before.kept-auth.ensures p.before.before.is_below.ensures p.before.type_size.ensures
-    p.packed.ensures c.put_number.ensures
+returns c = write_done _ _ c.if-out-ne-BYTES.false
+    (sym c.is_known.ensures ∙ not-false _ c.if-not-is_known.false-raw)
+    c.if-m-ge-LIMIT.false _ _ _ _ _ _
+    c.kept_line.ensures c.kept_auth.ensures c.is_below.ensures c.size_of.ensures
+    c.packed-n.ensures c.put_number.ensures
