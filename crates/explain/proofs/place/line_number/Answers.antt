@@ -1,9 +1,9 @@
 use mathlib.Core.Path.{◌∙◌}
-use mathlib.Core.Logic.{inl, inr}
 use Prim.Native.Nat.{◌-◌}
 use native.Mathlib.Omega.{arith}
 use Rattle.explain.proofs.PlaceLaws.{number_start, number_newline, number_other, number_end}
 use Rattle.explain.proofs.place.line_number.Goals as goal
+use Rattle.explain.proofs.place.line_number.Goals.{then-table-i-eq10, else-table-i-eq10}
 
 pub loop-i-init : goal.loop-i-init
 loop-i-init c = (omega arith, omega arith, number_start _ _)
@@ -25,8 +25,8 @@ loop-i-preserved c = let l = c.loop-i in
     let h = c.loop-i-test.true in
     let t = c.args.table.now in
     elim c.if-table-i-eq10.branch [
-      | inl w ↦ (omega arith, rw w.1 (omega arith), rw w.1 (number_newline t _ l.i l.line c.requires h w.0.taken ∙ l.invariant.2))
-      | inr w ↦ (omega arith, rw w.1 (omega arith), rw w.1 (number_other t _ l.i l.line c.requires h w.0.left ∙ l.invariant.2))
+      | then-table-i-eq10 w ↦ (omega arith, rw w.line-is (omega arith), rw w.line-is (number_newline t _ l.i l.line c.requires h w.if-table-i-eq10.true ∙ l.invariant.2))
+      | else-table-i-eq10 w ↦ (omega arith, rw w.line-is (omega arith), rw w.line-is (number_other t _ l.i l.line c.requires h w.if-table-i-eq10.false ∙ l.invariant.2))
     ]
 
 pub returns : goal.returns

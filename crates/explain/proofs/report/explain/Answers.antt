@@ -1,5 +1,4 @@
 use mathlib.Core.Path.{ap}
-use borrow.Enum.Refused.{opened}
 use Rattle.explain.specs.Explained.{finding}
 use Rattle.explain.specs.Words.{long_table_words, refused_byte_words, cut_short_words}
 use Rattle.explain.proofs.ExplainLaws.{explained_by, finding_byte, finding_cut, finding_line, finding_ok}
@@ -29,4 +28,4 @@ unfolding finding
 returns-in-SmallBuffer c = explained_by _ _ _ _ c.put_name-named.ensures c.then_all-in-SmallBuffer.ensures (ap (finding _ _) c.in-SmallBuffer.is)
 
 pub returns-in_default : goal.returns-in_default
-returns-in_default c = explained_by _ _ _ _ c.put_name-named.ensures c.then_ok.ensures (finding_ok _ _ _ (opened c.in_default.in_default-own.keys7))
+returns-in_default c = explained_by _ _ _ _ c.put_name-named.ensures c.then_ok.ensures (finding_ok _ _ _ c.in_default.in_default-own.keys7)
