@@ -9,11 +9,10 @@ use lib.Dec.{eqb}
 use lib.IntN.{ℤ}
 use lib.ListN.{length, take, length-take}
 use Rattle.text.proofs.Laws.{clash, take_min}
-use Rattle.io.specs.Counts.{clamp_len}
 use Rattle.streams.specs.Contract.{counted_on}
 use Rattle.streams.proofs.CountLaws.{counted_none}
 use Rattle.record_log.specs.declared.appended.Appended.{Appended}
-use Rattle.record_log.specs.Appending.{took_all, AfterWrite, HandsOn, AppendsFirst}
+use Rattle.record_log.specs.Appending.{clamp_len, took_all, AfterWrite, HandsOn, AppendsFirst}
 use mir.Syntax.{w64}
 use mir.Val.{SFits, to_z, of_z}
 use mir.ValLaws.{to_z-of_z}

@@ -1,5 +1,6 @@
 // What was handed to a log's file.
 ghost use Rattle.std.specs.Prelude.{◌≡◌, true, length, take};
+ghost use Rattle.std.specs.Io.{WritesAtMost};
 ghost use Rattle.record_log.specs.Appending.{clamp_len, took_all, AfterWrite, HandsOn, AppendsFirst};
 
 use std::fs::File;
@@ -41,7 +42,9 @@ fn took_all(told: isize, part: &[u8]) -> bool
 }
 
 // What a write told: how many bytes it took, or the number of a failure, which is told.
-fn told_by(answer: io::Result<usize>, errors: Stderr, name: &[u8]) -> isize {
+fn told_by(answer: io::Result<usize>, errors: Stderr, name: &[u8], part: &[u8]) -> isize
+    requires { WritesAtMost answer part.now }
+{
     match answer {
         Ok(n) => n as isize,
         Err(why) => {
@@ -64,7 +67,9 @@ fn tell_failure(told: isize, errors: Stderr, name: &[u8]) {
 }
 
 // One call of the system's.
-fn write_once(to: Option<&File>, part: &[u8]) -> io::Result<usize> {
+fn write_once(to: Option<&File>, part: &[u8]) -> io::Result<usize>
+    ensures { WritesAtMost result part.now }
+{
     match to {
         Some(mut file) => file.write(part),
         None => Err(Error::from_raw_os_error(NOT_OPEN)),
@@ -117,7 +122,7 @@ impl Appended {
         requires { part.now ≡ take count records.now }
         ensures { HandsOn (take count records.now) self result }
     {
-        let told = told_by(write_once(to, part), errors, name);
+        let told = told_by(write_once(to, part), errors, name, part);
         self.after_write(told, errors, name, part)
     }
 

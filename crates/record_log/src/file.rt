@@ -64,7 +64,8 @@ impl Log {
         let file = self.file;
         let before = self.appended;
         let appended = before.append(file.as_ref(), errors, name, records, self.waiting);
-        if !appended.is_whole() {
+        let is_whole = appended.is_whole();
+        if !is_whole {
             return Log {
                 file: None,
                 is_open: false,

@@ -1,0 +1,65 @@
+use mathlib.Core.Path.{refl, sym, ap, ◌∙◌}
+use Prim.Native.Nat.{◌-◌}
+use native.Mathlib.Omega.{arith}
+use borrow.Author.Rules.{rules}
+use lib.ListN.{length, length-drop}
+use Rattle.text.proofs.Laws.{part_rest, part_start}
+use Rattle.log_text.proofs.OutputLaws.{hands_start, hands_failed, hands_shown, hands_all}
+use Rattle.log_text.proofs.show.print_records.Goals as goal
+
+pub loop-at-init : goal.loop-at-init
+loop-at-init c = (omega arith, refl, c.requires, refl, hands_start c.args.block.now _ (omega (arith, c.type_inv)))
+
+pub overflow_sub-block : goal.overflow_sub-block
+overflow_sub-block c = omega arith
+
+pub slice_bounds-show_block-count : goal.slice_bounds-show_block-count
+slice_bounds-show_block-count c = omega arith
+
+pub slice_bounds-show_block-start : goal.slice_bounds-show_block-start
+slice_bounds-show_block-start c = omega arith
+
+pub slice_bounds-show_block-end : goal.slice_bounds-show_block-end
+slice_bounds-show_block-end c = omega arith
+
+pub show_block-shown-requires : goal.show_block-shown-requires
+show_block-shown-requires c = omega arith
+
+pub slice_bounds-write_waiting-count : goal.slice_bounds-write_waiting-count
+slice_bounds-write_waiting-count c = omega arith
+
+pub slice_bounds-write_waiting-start : goal.slice_bounds-write_waiting-start
+slice_bounds-write_waiting-start c = omega arith
+
+pub slice_bounds-write_waiting-end : goal.slice_bounds-write_waiting-end
+slice_bounds-write_waiting-end c = omega (arith, c.show_block-shown.ensures.0.within)
+
+pub write_waiting-output-requires : goal.write_waiting-output-requires
+write_waiting-output-requires c = part_start c.show_block-shown.result.waiting c.show_block-shown.new.1.0
+
+pub overflow_add-at : goal.overflow_add-at
+overflow_add-at c = let l = c.loop-at in
+    let s = c.args.block.now in
+    let z = ap length (part_rest l.at s) ∙ length-drop l.at s in
+    omega (arith, c.show_block-shown.ensures.1.part, z, l.invariant.0, c.type_inv)
+
+pub loop-at-smaller : goal.loop-at-smaller
+loop-at-smaller c = let l = c.loop-at in
+    let s = c.args.block.now in
+    let z = ap length (part_rest l.at s) ∙ length-drop l.at s in
+    let e = c.show_block-shown.ensures in
+    let m = e.0.moves (omega (arith, z, c.loop-at-test.true)) (omega (arith, l.invariant.2)) in
+    omega (arith, m, e.1.part, z)
+
+pub loop-at-preserved : goal.loop-at-preserved
+loop-at-preserved c = let l = c.loop-at in
+    let s = c.args.block.now in
+    let z = ap length (part_rest l.at s) ∙ length-drop l.at s in
+    let e = c.show_block-shown.ensures in
+    (omega (arith, e.1.part, z, l.invariant.0), search rules, search rules, omega (arith, e.1.whole, l.invariant.3), hands_shown s _ (part_rest l.at s) l.invariant.0 l.invariant.3 l.invariant.4 e.1 c.write_waiting-output.ensures)
+
+pub returns-else-is_whole : goal.returns-else-is_whole
+returns-else-is_whole c = hands_failed (sym c.is_whole.ensures ∙ c.if-is_whole.false)
+
+pub returns-after-loop-at : goal.returns-after-loop-at
+returns-after-loop-at c = let l = c.loop-at in hands_all c.args.block.now l.invariant.0 l.invariant.3 (omega (arith, c.loop-at-test.false)) l.invariant.4

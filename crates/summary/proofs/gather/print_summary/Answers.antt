@@ -1,0 +1,18 @@
+use mathlib.Core.Path.{sym}
+use native.Mathlib.Omega.{arith}
+use Rattle.text.proofs.Laws.{part_start}
+use Rattle.text.proofs.Buffers.{wrote_length, wrote_done}
+use Rattle.summary.proofs.GatherLaws.{prints_done, prints_full}
+use Rattle.summary.proofs.gather.print_summary.Goals as goal
+
+pub slice_bounds-write_lines-end : goal.slice_bounds-write_lines-end
+slice_bounds-write_lines-end c = let w = c.put_summary.ensures in omega (arith, wrote_length w, (wrote_done w c.in-Done.is).0)
+
+pub write_lines-requires : goal.write_lines-requires
+write_lines-requires c = part_start c.in-Done.n c.put_summary.new.1.1.0
+
+pub returns-in-Done : goal.returns-in-Done
+returns-in-Done c = prints_done (sym c.lines_buffer-out.ensures) c.put_summary.ensures c.in-Done.is c.write_lines.ensures
+
+pub returns-in-Full : goal.returns-in-Full
+returns-in-Full c = prints_full (sym c.lines_buffer-out.ensures) c.put_summary.ensures c.in-Full.is

@@ -1,0 +1,8 @@
+use Rattle.streams.proofs.InputLaws.{loaded_bytes}
+use Rattle.supertab.proofs.answer.Goals as goal
+
+pub slice_bounds-bytes-end : goal.slice_bounds-bytes-end
+slice_bounds-bytes-end c = (loaded_bytes c.load.ensures c.in-Bytes.is).0
+
+pub slice_bounds-answer_lines-end : goal.slice_bounds-answer_lines-end
+slice_bounds-answer_lines-end c = (loaded_bytes c.load.ensures c.in-Bytes.is).1
