@@ -14,7 +14,7 @@ returns-in_default c = let a = c.args in
     record { wrote = wrote_as c.put_from.ensures (ap (λ t. starred a.command.now (drop a.at t)) (texts_lost _ (fields_in a.text.now a.ends.now a.count) a.index c.field-written.ensures (text_fault c.field_text.ensures c.in_default.is))); room = l }
 
 pub slice_bounds-put_from-end-2 : goal.slice_bounds-put_from-end-2
-slice_bounds-put_from-end-2 c = let l : length c.field_text.new.1.1.1.1.1.1.0 ≡ 1024 = search rules in text_length c.field_text.ensures c.in-Text.is l
+slice_bounds-put_from-end-2 c = let l : length c.field_text.new.out ≡ 1024 = search rules in text_length c.field_text.ensures c.in-Text.is l
 
 pub returns : goal.returns
 returns c = let a = c.args in

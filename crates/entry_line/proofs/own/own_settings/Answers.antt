@@ -1,5 +1,4 @@
 use mathlib.Core.Path.{◌≡◌, refl}
-use Prim.Native.Nat.{◌-◌}
 use native.Mathlib.Omega.{arith}
 use borrow.Author.Rules.{rules}
 use lib.ListN.{length}
@@ -18,10 +17,10 @@ returns-in_default c = let a = c.args in
     λ judge ps e f g. reached_lost fs c.loop-i.i (field_there a.text.now a.ends.now a.count c.at_most-most.ensures.0 c.loop-i-test.true) c.field.ensures (c.loop-i.invariant judge ps e (c.new-own.ensures ps _ f) (entry_fields _ _ _ g)) (text_fault c.field_text.ensures c.in_default.is)
 
 pub slice_bounds-kind-end : goal.slice_bounds-kind-end
-slice_bounds-kind-end c = let l : length c.field_text.new.1.1.1.1.1.1.0 ≡ 1024 = search rules in text_length c.field_text.ensures c.in-Text.is l
+slice_bounds-kind-end c = let l : length c.field_text.new.out ≡ 1024 = search rules in text_length c.field_text.ensures c.in-Text.is l
 
 pub slice_bounds-with_text-end : goal.slice_bounds-with_text-end
-slice_bounds-with_text-end c = let l : length c.field_text.new.1.1.1.1.1.1.0 ≡ 1024 = search rules in text_length c.field_text.ensures c.in-Text.is l
+slice_bounds-with_text-end c = let l : length c.field_text.new.out ≡ 1024 = search rules in text_length c.field_text.ensures c.in-Text.is l
 
 pub overflow_add-i : goal.overflow_add-i
 overflow_add-i c = omega (arith, c.loop-i-test.true, c.at_most-most.ensures.1)

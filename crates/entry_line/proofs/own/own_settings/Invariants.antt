@@ -1,5 +1,5 @@
 use mathlib.Core.Path.{◌≡◌}
-use mathlib.Core.List.{List}
+use mathlib.Core.List.{List, []}
 use Prim.Native.Nat.{◌-◌}
 use lib.ListN.{drop}
 use Rattle.fault.specs.Fault.{value}

@@ -1,8 +1,11 @@
+use mathlib.Core.Path.{◌≡◌}
+use borrow.Author.Rules.{rules}
+use lib.ListN.{length}
 use Rattle.entry_line.proofs.ReadLaws.{unless_length, unless_refused, unless_added}
 use Rattle.entry_line.proofs.read.add_field.Goals as goal
 
 pub slice_bounds-either-end : goal.slice_bounds-either-end
-slice_bounds-either-end c = unless_length c.text_unless.ensures c.in-Text.is c.all-in-Text-1.given.0
+slice_bounds-either-end c = let l : length c.text_unless.new.scratch ≡ 1024 = search rules in unless_length c.text_unless.ensures c.in-Text.is l
 
 pub returns-in-Fault : goal.returns-in-Fault
 returns-in-Fault c = λ t p e te h. unless_refused c.text_unless.ensures _ c.in-Fault.is

@@ -1,6 +1,5 @@
 use mathlib.Core.Path.{ap, ◌∙◌}
 use native.Mathlib.Omega.{arith}
-use Prim.Native.Nat.{◌-◌}
 use Rattle.variables.specs.Contract.{verbatim}
 use Rattle.entry_line.proofs.ReadLaws.{field_there, fields_past, field_verbatim, read_none, read_fault, read_on, read_end}
 use Rattle.entry_line.proofs.read.read_fields.Goals as goal
