@@ -1,7 +1,7 @@
 -- The lines of a file one after the other: what each comes to, and what is kept of the lines so far. Assumes nothing.
 use mathlib.Core.Path.{◌≡◌, refl, sym, ap, ◌∙◌}
 use mathlib.Core.Bool.{Bool, true, false, cond}
-use mathlib.Core.List.{List, [], ◌∷◌}
+use mathlib.Core.List.{List}
 use mathlib.Core.Option.{Option, none, some, bind, or_else}
 use Prim.Native.Nat.{ℕ, ◌+◌, ◌-◌, ◌≤◌, ◌<◌}
 use native.Mathlib.Omega.{arith}
@@ -21,7 +21,7 @@ use Rattle.suauth.specs.declared.rule.LineTold.{LineTold}
 use Rattle.suauth.specs.Rule.{Rule, Malformed, malformed, rule_in}
 use Rattle.suauth.specs.Meaning.{Question, applies, Decision, decided_by, line_read, settled, lines_give}
 use Rattle.suauth.specs.Contract.{when_applies, line_tells, decided_at}
-use Rattle.suauth.specs.declared.rule.LineTold.TheVariants.{Malformed as BadLine, Nothing as NoneHere, Rule as RuleHere}
+use Rattle.suauth.specs.declared.rule.LineTold.TheVariants.{Malformed as BadLine}
 
 -- ---- what a line comes to, by what it tells
 module _ (q : Question) where

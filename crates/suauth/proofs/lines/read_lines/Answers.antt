@@ -1,4 +1,3 @@
-use Prim.Native.Nat.{◌-◌}
 use native.Mathlib.Omega.{arith}
 use Rattle.suauth.specs.Contract.{question_in}
 use Rattle.suauth.proofs.LineLaws.{so_start, so_end, so_cut, so_bad, so_on}

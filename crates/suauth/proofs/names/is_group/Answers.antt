@@ -1,5 +1,4 @@
 use mathlib.Core.Path.{refl, sym, ◌∙◌}
-use Prim.Native.Nat.{◌-◌}
 use native.Mathlib.Omega.{arith}
 use Rattle.text.specs.Slice.{same}
 use Rattle.question.proofs.ZeroEnded.{some_open, some_hit, some_on, some_end_law}
