@@ -10,32 +10,22 @@ pub returns-in-Fault : goal.returns-in-Fault
 returns-in-Fault c = record { room = scans_length c.scan_line.ensures; places = ends_kept c.scan_line.ensures; does = λ t d q k s h l b. scan_fault k h l b (scans_fault c.scan_line.ensures c.in-Fault.is) }
 
 pub returns-in-Fault-control_line : goal.returns-in-Fault-control_line
-returns-in-Fault-control_line c = let x = c.before.before.before in
-    record { room = scans_length x.before.before.before.before.before.before.before.scan-line.ensures; places = ends_kept x.before.before.before.before.before.before.before.scan-line.ensures; does = λ t d q k s h l b. action_fault k h l b (scanned_fields x.before.before.before.before.before.before.before.scan-line.ensures x.before.before.before.before.before.n.given.1 t d) _ x.control-line.ensures c.in-Fault-control_line.is }
+returns-in-Fault-control_line c = record { room = scans_length c.scan_line.ensures; places = ends_kept c.scan_line.ensures; does = λ t d q k s h l b. action_fault k h l b (scanned_fields c.scan_line.ensures c.in-Good.is t d) _ c.control_line.ensures c.in-Fault-control_line.is }
 
 pub returns-in-Nothing : goal.returns-in-Nothing
-returns-in-Nothing c = let x = c.before.before in
-    record { room = scans_length x.before.before.before.before.before.before.before.scan-line.ensures; places = ends_kept x.before.before.before.before.before.before.before.scan-line.ensures; does = λ t d q k s h l b. action_nothing k h l b (scanned_fields x.before.before.before.before.before.before.before.scan-line.ensures x.before.before.before.before.before.n.given.1 t d) _ x.control-line.ensures c.in-Nothing.is }
+returns-in-Nothing c = record { room = scans_length c.scan_line.ensures; places = ends_kept c.scan_line.ensures; does = λ t d q k s h l b. action_nothing k h l b (scanned_fields c.scan_line.ensures c.in-Good.is t d) _ c.control_line.ensures c.in-Nothing.is }
 
 pub returns-in-Define : goal.returns-in-Define
-returns-in-Define c = let x = c.before.before.before in
-    record { room = scans_length x.before.before.before.before.before.before.before.scan-line.ensures; places = ends_kept x.before.before.before.before.before.before.before.scan-line.ensures; does = λ t d q k s h l b. action_define k h l b (scanned_fields x.before.before.before.before.before.before.before.scan-line.ensures x.before.before.before.before.before.n.given.1 t d) _ x.control-line.ensures c.in-Define.is }
+returns-in-Define c = record { room = scans_length c.scan_line.ensures; places = ends_kept c.scan_line.ensures; does = λ t d q k s h l b. action_define k h l b (scanned_fields c.scan_line.ensures c.in-Good.is t d) _ c.control_line.ensures c.in-Define.is }
 
 pub returns-in-Global : goal.returns-in-Global
-returns-in-Global c = let x = c.before.before.before in
-    record { room = scans_length x.before.before.before.before.before.before.before.scan-line.ensures; places = ends_kept x.before.before.before.before.before.before.before.scan-line.ensures; does = λ t d q k s h l b. action_global k h l b (scanned_fields x.before.before.before.before.before.before.before.scan-line.ensures x.before.before.before.before.before.n.given.1 t d) _ x.control-line.ensures c.in-Global.is }
+returns-in-Global c = record { room = scans_length c.scan_line.ensures; places = ends_kept c.scan_line.ensures; does = λ t d q k s h l b. action_global k h l b (scanned_fields c.scan_line.ensures c.in-Good.is t d) _ c.control_line.ensures c.in-Global.is }
 
 pub returns-in-Fault-read_entry : goal.returns-in-Fault-read_entry
-returns-in-Fault-read_entry c = let y = c.before.before.before in
-    let x = y.before.before.before.before.before.before.before.before in
-    record { room = scans_length x.before.before.before.before.before.before.before.scan-line.ensures; places = ends_kept x.before.before.before.before.before.before.before.scan-line.ensures; does = λ t d q k s h l b. entry_fault k h l b (scanned_fields x.before.before.before.before.before.before.before.scan-line.ensures x.before.before.before.before.before.n.given.1 t d) _ x.control-line.ensures y.before.before.before.before.before.before.from3.given.1 y.read-entry.ensures c.in-Fault-read_entry.is }
+returns-in-Fault-read_entry c = record { room = scans_length c.scan_line.ensures; places = ends_kept c.scan_line.ensures; does = λ t d q k s h l b. entry_fault k h l b (scanned_fields c.scan_line.ensures c.in-Good.is t d) _ c.control_line.ensures c.in-Entry.is c.read_entry.ensures c.in-Fault-read_entry.is }
 
 pub returns-in-Passed : goal.returns-in-Passed
-returns-in-Passed c = let y = c.before.before in
-    let x = y.before.before.before.before.before.before.before.before in
-    record { room = scans_length x.before.before.before.before.before.before.before.scan-line.ensures; places = ends_kept x.before.before.before.before.before.before.before.scan-line.ensures; does = λ t d q k s h l b. entry_passed k h l b (scanned_fields x.before.before.before.before.before.before.before.scan-line.ensures x.before.before.before.before.before.n.given.1 t d) _ x.control-line.ensures y.before.before.before.before.before.before.from3.given.1 y.read-entry.ensures c.in-Passed.is }
+returns-in-Passed c = record { room = scans_length c.scan_line.ensures; places = ends_kept c.scan_line.ensures; does = λ t d q k s h l b. entry_passed k h l b (scanned_fields c.scan_line.ensures c.in-Good.is t d) _ c.control_line.ensures c.in-Entry.is c.read_entry.ensures c.in-Passed.is }
 
 pub returns-in-Accepts : goal.returns-in-Accepts
-returns-in-Accepts c = let y = c.before.before.before in
-    let x = y.before.before.before.before.before.before.before.before in
-    record { room = scans_length x.before.before.before.before.before.before.before.scan-line.ensures; places = ends_kept x.before.before.before.before.before.before.before.scan-line.ensures; does = λ t d q k s h l b. entry_decides k h l b (scanned_fields x.before.before.before.before.before.before.before.scan-line.ensures x.before.before.before.before.before.n.given.1 t d) _ x.control-line.ensures y.before.before.before.before.before.before.from3.given.1 y.read-entry.ensures c.in-Accepts.is }
+returns-in-Accepts c = record { room = scans_length c.scan_line.ensures; places = ends_kept c.scan_line.ensures; does = λ t d q k s h l b. entry_decides k h l b (scanned_fields c.scan_line.ensures c.in-Good.is t d) _ c.control_line.ensures c.in-Entry.is c.read_entry.ensures c.in-Accepts.is }

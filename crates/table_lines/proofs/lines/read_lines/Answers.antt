@@ -25,28 +25,25 @@ pub slice_bounds-line_action-count : goal.slice_bounds-line_action-count
 slice_bounds-line_action-count c = let w = rw c.in-At.is at c.control_end.ensures in omega (arith, w.low, w.high)
 
 pub returns-in-Fault : goal.returns-in-Fault
-returns-in-Fault c = let p = c.before.before.before.before in
-    let w = rw p.before.before.before.before.before.before.before.before.before.before.end.given.1 at p.before.before.before.before.before.before.before.before.before.before.before.before.control-end.ensures in
-    let l = p.before.before.before.before.before.before.before.before.before.before.before.before.before.before.loop in
-    record { gives = λ q a. refused_gives q _ _ c.refused.ensures (turn_fault (l.invariant.4 q a) w a p.line-action.ensures l.invariant.2 l.invariant.3 c.in-Fault.is) }
+returns-in-Fault c = let w = rw c.in-At.is at c.control_end.ensures in
+    let l = c.loop-at in
+    record { gives = λ q a. refused_gives q _ _ c.refused.ensures (turn_fault (l.invariant.4 q a) w a c.line_action.ensures l.invariant.2 l.invariant.3 c.in-Fault.is) }
 
 pub loop-at-smaller-in-Nothing : goal.loop-at-smaller-in-Nothing
-loop-at-smaller-in-Nothing c = let p = c.before.before in let w = rw p.before.before.before.before.before.before.before.before.before.before.end.given.1 at p.before.before.before.before.before.before.before.before.before.before.before.before.control-end.ensures in omega (arith, w.low, w.high)
+loop-at-smaller-in-Nothing c = let w = rw c.in-At.is at c.control_end.ensures in omega (arith, w.low, w.high)
 
 pub loop-at-preserved-in-Nothing : goal.loop-at-preserved-in-Nothing
-loop-at-preserved-in-Nothing c = let p = c.before.before in
-    let w = rw p.before.before.before.before.before.before.before.before.before.before.end.given.1 at p.before.before.before.before.before.before.before.before.before.before.before.before.control-end.ensures in
-    let l = p.before.before.before.before.before.before.before.before.before.before.before.before.before.before.loop in
-    (w.high, omega (arith, w.few, l.invariant.1), p.line-action.ensures.room ∙ l.invariant.2, p.line-action.ensures.places ∙ l.invariant.3, λ q a. turn_nothing (l.invariant.4 q a) w a p.line-action.ensures l.invariant.2 l.invariant.3 c.in-Nothing.is)
+loop-at-preserved-in-Nothing c = let w = rw c.in-At.is at c.control_end.ensures in
+    let l = c.loop-at in
+    (w.high, omega (arith, w.few, l.invariant.1), c.line_action.ensures.room ∙ l.invariant.2, c.line_action.ensures.places ∙ l.invariant.3, λ q a. turn_nothing (l.invariant.4 q a) w a c.line_action.ensures l.invariant.2 l.invariant.3 c.in-Nothing.is)
 
 pub slice_bounds-read_define-end : goal.slice_bounds-read_define-end
 slice_bounds-read_define-end c = sym (c.line_action.ensures.room ∙ c.loop-at.invariant.2)
 
 pub returns-in-Fault-read_define : goal.returns-in-Fault-read_define
-returns-in-Fault-read_define c = let p = c.before.before.before.before.before.before.before.before.before.before.before.before.before.before.before in
-    let w = rw p.before.before.before.before.before.before.before.before.before.before.end.given.1 at p.before.before.before.before.before.before.before.before.before.before.before.before.control-end.ensures in
-    let l = p.before.before.before.before.before.before.before.before.before.before.before.before.before.before.loop in
-    record { gives = λ q a. refused_gives q _ _ c.refused-in-Fault-read_define.ensures (turn_define_fault (l.invariant.4 q a) w a p.line-action.ensures l.invariant.2 l.invariant.3 c.in-Define.is c.read_define.ensures c.in-Fault-read_define.is) }
+returns-in-Fault-read_define c = let w = rw c.in-At.is at c.control_end.ensures in
+    let l = c.loop-at in
+    record { gives = λ q a. refused_gives q _ _ c.refused-in-Fault-read_define.ensures (turn_define_fault (l.invariant.4 q a) w a c.line_action.ensures l.invariant.2 l.invariant.3 c.in-Define.is c.read_define.ensures c.in-Fault-read_define.is) }
 
 pub slice_bounds-name-end : goal.slice_bounds-name-end
 slice_bounds-name-end c = (place_within c.read_define.ensures c.in-At-read_define.is).0
@@ -61,46 +58,42 @@ pub slice_bounds-define-end-in-At-read_define : goal.slice_bounds-define-end-in-
 slice_bounds-define-end-in-At-read_define c = sym (length-take-le _ _ (place_within c.read_define.ensures c.in-At-read_define.is).1)
 
 pub loop-at-smaller-in-At-read_define : goal.loop-at-smaller-in-At-read_define
-loop-at-smaller-in-At-read_define c = let p = c.before.before.before.before.before.before.before.before.before.before.before.before.before.before.before.before.before in let w = rw p.before.before.before.before.before.before.before.before.before.before.end.given.1 at p.before.before.before.before.before.before.before.before.before.before.before.before.control-end.ensures in omega (arith, w.low, w.high)
+loop-at-smaller-in-At-read_define c = let w = rw c.in-At.is at c.control_end.ensures in omega (arith, w.low, w.high)
 
 pub loop-at-preserved-in-At-read_define : goal.loop-at-preserved-in-At-read_define
-loop-at-preserved-in-At-read_define c = let p = c.before.before.before.before.before.before.before.before.before.before.before.before.before.before.before.before.before in
-    let w = rw p.before.before.before.before.before.before.before.before.before.before.end.given.1 at p.before.before.before.before.before.before.before.before.before.before.before.before.control-end.ensures in
-    let l = p.before.before.before.before.before.before.before.before.before.before.before.before.before.before.loop in
+loop-at-preserved-in-At-read_define c = let w = rw c.in-At.is at c.control_end.ensures in
+    let l = c.loop-at in
     let bytes : length c.define-variables.result.bytes ≡ 20480 = search rules in
     let sizes : length c.define-variables.result.sizes ≡ 128 = search rules in
     let stores = stored_there l.variables _ _ _ _ bytes sizes c.define-variables.ensures in
-    (w.high, omega (arith, w.few, l.invariant.1), p.line-action.ensures.room ∙ l.invariant.2, p.line-action.ensures.places ∙ l.invariant.3, λ q a. turn_defined (l.invariant.4 q a) w a p.line-action.ensures l.invariant.2 l.invariant.3 c.in-Define.is c.read_define.ensures c.in-At-read_define.is stores)
+    (w.high, omega (arith, w.few, l.invariant.1), c.line_action.ensures.room ∙ l.invariant.2, c.line_action.ensures.places ∙ l.invariant.3, λ q a. turn_defined (l.invariant.4 q a) w a c.line_action.ensures l.invariant.2 l.invariant.3 c.in-Define.is c.read_define.ensures c.in-At-read_define.is stores)
 
 pub slice_bounds-global-end : goal.slice_bounds-global-end
 slice_bounds-global-end c = sym (c.line_action.ensures.room ∙ c.loop-at.invariant.2)
 
 pub returns-in-Fault-outcome : goal.returns-in-Fault-outcome
-returns-in-Fault-outcome c = let p = c.before.before.before.before.before.before.before.before.before.before.before.before.before in
-    let w = rw p.before.before.before.before.before.before.before.before.before.before.end.given.1 at p.before.before.before.before.before.before.before.before.before.before.before.before.control-end.ensures in
-    let l = p.before.before.before.before.before.before.before.before.before.before.before.before.before.before.loop in
-    record { gives = λ q a. refused_gives q _ _ c.refused-in-Fault-outcome.ensures (turn_global_fault (l.invariant.4 q a) w a p.line-action.ensures l.invariant.2 l.invariant.3 c.in-Global.is c.global-changed.ensures c.in-Fault-outcome.is) }
+returns-in-Fault-outcome c = let w = rw c.in-At.is at c.control_end.ensures in
+    let l = c.loop-at in
+    record { gives = λ q a. refused_gives q _ _ c.refused-in-Fault-outcome.ensures (turn_global_fault (l.invariant.4 q a) w a c.line_action.ensures l.invariant.2 l.invariant.3 c.in-Global.is c.global-changed.ensures c.in-Fault-outcome.is) }
 
 pub loop-at-smaller-in-Global : goal.loop-at-smaller-in-Global
-loop-at-smaller-in-Global c = let p = c.before.before.before.before.before.before.before.before.before.before.before.before in let w = rw p.before.before.before.before.before.before.before.before.before.before.end.given.1 at p.before.before.before.before.before.before.before.before.before.before.before.before.control-end.ensures in omega (arith, w.low, w.high)
+loop-at-smaller-in-Global c = let w = rw c.in-At.is at c.control_end.ensures in omega (arith, w.low, w.high)
 
 pub loop-at-preserved-in-Global : goal.loop-at-preserved-in-Global
-loop-at-preserved-in-Global c = let p = c.before.before.before.before.before.before.before.before.before.before.before.before in
-    let w = rw p.before.before.before.before.before.before.before.before.before.before.end.given.1 at p.before.before.before.before.before.before.before.before.before.before.before.before.control-end.ensures in
-    let l = p.before.before.before.before.before.before.before.before.before.before.before.before.before.before.loop in
-    (w.high, omega (arith, w.few, l.invariant.1), p.line-action.ensures.room ∙ l.invariant.2, p.line-action.ensures.places ∙ l.invariant.3, λ q a. turn_set (l.invariant.4 q a) w a p.line-action.ensures l.invariant.2 l.invariant.3 c.in-Global.is c.global-changed.ensures c.in_default-outcome.is)
+loop-at-preserved-in-Global c = let w = rw c.in-At.is at c.control_end.ensures in
+    let l = c.loop-at in
+    (w.high, omega (arith, w.few, l.invariant.1), c.line_action.ensures.room ∙ l.invariant.2, c.line_action.ensures.places ∙ l.invariant.3, λ q a. turn_set (l.invariant.4 q a) w a c.line_action.ensures l.invariant.2 l.invariant.3 c.in-Global.is c.global-changed.ensures c.in_default-outcome.is)
 
 pub slice_bounds-decide-end : goal.slice_bounds-decide-end
 slice_bounds-decide-end c = sym (c.line_action.ensures.room ∙ c.loop-at.invariant.2)
 
 pub loop-at-smaller : goal.loop-at-smaller
-loop-at-smaller c = let p = c.before.before.before.before.before.before.before.before.before.before.before.before.before.before in let w = rw p.before.before.before.before.before.before.before.before.before.before.end.given.1 at p.before.before.before.before.before.before.before.before.before.before.before.before.control-end.ensures in omega (arith, w.low, w.high)
+loop-at-smaller c = let w = rw c.in-At.is at c.control_end.ensures in omega (arith, w.low, w.high)
 
 pub loop-at-preserved : goal.loop-at-preserved
-loop-at-preserved c = let p = c.before.before.before.before.before.before.before.before.before.before.before.before.before.before in
-    let w = rw p.before.before.before.before.before.before.before.before.before.before.end.given.1 at p.before.before.before.before.before.before.before.before.before.before.before.before.control-end.ensures in
-    let l = p.before.before.before.before.before.before.before.before.before.before.before.before.before.before.loop in
-    (w.high, omega (arith, w.few, l.invariant.1), p.line-action.ensures.room ∙ l.invariant.2, p.line-action.ensures.places ∙ l.invariant.3, λ q a. turn_decided (l.invariant.4 q a) w a p.line-action.ensures l.invariant.2 l.invariant.3 c.in-Decide.is c.made-decision.ensures c.decide-decided.ensures)
+loop-at-preserved c = let w = rw c.in-At.is at c.control_end.ensures in
+    let l = c.loop-at in
+    (w.high, omega (arith, w.few, l.invariant.1), c.line_action.ensures.room ∙ l.invariant.2, c.line_action.ensures.places ∙ l.invariant.3, λ q a. turn_decided (l.invariant.4 q a) w a c.line_action.ensures l.invariant.2 l.invariant.3 c.in-Decide.is c.made-decision.ensures c.decide-decided.ensures)
 
 pub returns : goal.returns
 returns c = record { gives = λ q a. so_end (c.loop-at.invariant.4 q a) c.loop-at-test.false }
