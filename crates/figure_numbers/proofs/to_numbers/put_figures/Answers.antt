@@ -16,5 +16,5 @@ put_counts-requires-3 c = let l : length c.args.figures.hours ≡ 24 = search ru
 pub returns : goal.returns
 returns c = let a : length c.args.figures.answers ≡ 24 = search rules in
     let w : length c.args.figures.weekdays ≡ 7 = search rules in
-    let h : length c.args.figures.hours ≡ 24 = search (rules, c.type_inv.0.1.1) in
+    let h : length c.args.figures.hours ≡ 24 = search rules in
     figures_put c.args.figures a w h _ _ _ _ _ _ _ c.put_counts.ensures c.put_counts-2.ensures c.put_numbers.ensures c.put_counts-3.ensures c.put_numbers-2.ensures c.totals_of-totals.ensures
