@@ -1,7 +1,8 @@
 -- The laws of the printed line of a record. Assumes nothing.
-use mathlib.Core.Path.{◌≡◌}
+use mathlib.Core.Path.{◌≡◌, refl}
 use mathlib.Core.Bool.{Bool, true, false}
 use mathlib.Core.List.{◌++◌}
+use mathlib.Core.Option.{none}
 use Prim.Native.Nat.{ℕ}
 use lib.IntN.{ℤ, pos, nat_abs}
 use lib.Signed.{lt_z}
@@ -15,12 +16,8 @@ use Rattle.question.specs.declared.LastAuthentication.TheVariants.{Never, Minute
 use Rattle.output.specs.Decimal.{decimal}
 use Rattle.record.specs.declared.Fields.{Fields}
 use Rattle.record.specs.declared.Record.{Record}
-use Rattle.record.specs.declared.Record.TheVariants.{Stored}
+use Rattle.record.specs.declared.Record.TheVariants.{Stored, OtherVersion, UnknownNumber, BadMinute, WrongLength}
 use Rattle.record.specs.Read.{record_told}
-use Rattle.record.specs.contracts.Record.{the_type}
-use denote.Enum.Declared.{tag_of}
-use types.Run.{OneOf}
-use Rattle.record.proofs.RoundTrip.{refusals, refusal_shows_nothing}
 use Rattle.log_text.specs.Printed.{minutes_text, age_text, auth_text, fields_text, refused_text, record_text}
 
 pub auth_on : {auth : Bool} → auth ≡ true → auth_text auth ≡ bytes "1"
@@ -57,6 +54,15 @@ pub record_shown : (r : Record) (f : Fields) → r ≡ Stored f → record_text 
 unfolding record_text record_told
 record_shown r f e = rw e
 
-pub record_refused : (q r : Record) {n : ℕ} → r ≡ q → OneOf refusals (tag_of the_type r) → n ≡ (record_told r).number → record_text q ≡ refused_text n
+-- a record that is refused shows nothing
+shows_nothing : (r : Record) → ((f : Fields) → r ≡ Stored f → ⊥) → (record_told r).shown ≡ none
+unfolding record_told
+shows_nothing (Stored f) h = absurd (h f refl)
+shows_nothing OtherVersion h = refl
+shows_nothing UnknownNumber h = refl
+shows_nothing BadMinute h = refl
+shows_nothing WrongLength h = refl
+
+pub record_refused : (q r : Record) {n : ℕ} → r ≡ q → ((f : Fields) → r ≡ Stored f → ⊥) → n ≡ (record_told r).number → record_text q ≡ refused_text n
 unfolding record_text
-record_refused q r e h k = rw (← e, k, refusal_shows_nothing r h)
+record_refused q r e h k = rw (← e, k, shows_nothing r h)

@@ -42,8 +42,8 @@ loop-at-preserved c = let l = c.loop-at in
 pub returns-else-out-waiting-ge-LINE : goal.returns-else-out-waiting-ge-LINE
 returns-else-out-waiting-ge-LINE c = let l = c.loop-at in
     let g = leb-false 32 (length l.out - l.waiting) c.if-out-waiting-ge-LINE.false-raw in
-    (record { within = l.invariant.1; stops = λ h. omega (arith, g); moves = λ h k. some_of l.at (λ e. absurd (omega (arith, g, l.invariant.3 e))) }, l.invariant.4)
+    record { reached = record { within = l.invariant.1; stops = λ h. omega (arith, g); moves = λ h k. some_of l.at (λ e. absurd (omega (arith, g, l.invariant.3 e))) }; shows = l.invariant.4 }
 
 pub returns-after-loop-at : goal.returns-after-loop-at
 returns-after-loop-at c = let l = c.loop-at in
-    (record { within = l.invariant.1; stops = λ h. absurd (omega arith); moves = λ h k. omega arith }, l.invariant.4)
+    record { reached = record { within = l.invariant.1; stops = λ h. absurd (omega arith); moves = λ h k. omega arith }; shows = l.invariant.4 }

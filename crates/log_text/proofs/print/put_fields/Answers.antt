@@ -15,9 +15,3 @@ returns c = c.then_all.ensures.behind _ _ _
     (c.then_decimal.ensures.behind _ _ _
     (c.then_all-number.ensures.behind _ _ _
     c.put_decimal.ensures))))))))
-
-pub shape_of-out : goal.shape_of-out
-shape_of-out c = omega (arith, wrote_length (whole c))
-
-pub returns : goal.returns
-returns c = whole c

@@ -4,7 +4,7 @@ use Rattle.log_text.proofs.PrintLaws.{record_shown, record_refused}
 use Rattle.log_text.proofs.print.put_record.Goals as goal
 
 pub returns-in-Stored : goal.returns-in-Stored
-returns-in-Stored c = wrote_as c.put_fields.ensures (record_shown _ _ (sym c.read_record-record.ensures ∙ c.before.before.before.before.before.«record».given.1))
+returns-in-Stored c = wrote_as c.put_fields.ensures (record_shown _ _ (sym c.read_record-record.ensures ∙ c.in-Stored.is))
 
 pub returns-in_default : goal.returns-in_default
-returns-in_default c = wrote_as c.put_refused.ensures (record_refused _ _ c.read_record-record.ensures c.in_default.keys2 c.number.ensures)
+returns-in_default c = wrote_as c.put_refused.ensures (record_refused _ _ c.read_record-record.ensures c.in_default.not-Stored c.number.ensures)

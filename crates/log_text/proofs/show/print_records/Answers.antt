@@ -32,31 +32,31 @@ pub slice_bounds-write_waiting-start : goal.slice_bounds-write_waiting-start
 slice_bounds-write_waiting-start c = omega arith
 
 pub slice_bounds-write_waiting-end : goal.slice_bounds-write_waiting-end
-slice_bounds-write_waiting-end c = omega (arith, c.show_block-shown.ensures.0.within)
+slice_bounds-write_waiting-end c = omega (arith, c.show_block-shown.ensures.reached.within)
 
 pub write_waiting-output-requires : goal.write_waiting-output-requires
-write_waiting-output-requires c = part_start c.show_block-shown.result.waiting c.show_block-shown.new.1.0
+write_waiting-output-requires c = part_start c.show_block-shown.result.waiting c.show_block-shown.new.out
 
 pub overflow_add-at : goal.overflow_add-at
 overflow_add-at c = let l = c.loop-at in
     let s = c.args.block.now in
     let z = ap length (part_rest l.at s) ∙ length-drop l.at s in
-    omega (arith, c.show_block-shown.ensures.1.part, z, l.invariant.0, c.type_inv)
+    omega (arith, c.show_block-shown.ensures.shows.part, z, l.invariant.0, c.type_inv)
 
 pub loop-at-smaller : goal.loop-at-smaller
 loop-at-smaller c = let l = c.loop-at in
     let s = c.args.block.now in
     let z = ap length (part_rest l.at s) ∙ length-drop l.at s in
     let e = c.show_block-shown.ensures in
-    let m = e.0.moves (omega (arith, z, c.loop-at-test.true)) (omega (arith, l.invariant.2)) in
-    omega (arith, m, e.1.part, z)
+    let m = e.reached.moves (omega (arith, z, c.loop-at-test.true)) (omega (arith, l.invariant.2)) in
+    omega (arith, m, e.shows.part, z)
 
 pub loop-at-preserved : goal.loop-at-preserved
 loop-at-preserved c = let l = c.loop-at in
     let s = c.args.block.now in
     let z = ap length (part_rest l.at s) ∙ length-drop l.at s in
     let e = c.show_block-shown.ensures in
-    (omega (arith, e.1.part, z, l.invariant.0), search rules, search rules, omega (arith, e.1.whole, l.invariant.3), hands_shown s _ (part_rest l.at s) l.invariant.0 l.invariant.3 l.invariant.4 e.1 c.write_waiting-output.ensures)
+    (omega (arith, e.shows.part, z, l.invariant.0), search rules, search rules, omega (arith, e.shows.whole, l.invariant.3), hands_shown s _ (part_rest l.at s) l.invariant.0 l.invariant.3 l.invariant.4 e.shows c.write_waiting-output.ensures)
 
 pub returns-else-is_whole : goal.returns-else-is_whole
 returns-else-is_whole c = hands_failed (sym c.is_whole.ensures ∙ c.if-is_whole.false)

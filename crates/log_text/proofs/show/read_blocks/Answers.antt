@@ -1,4 +1,5 @@
 use mathlib.Core.Path.{refl, ap}
+use mathlib.Core.List.{[]}
 use Prim.Native.Nat.{ℕ}
 use native.Mathlib.Omega.{arith}
 use borrow.Author.Rules.{rules}
@@ -24,7 +25,7 @@ loop-turns-smaller c = omega arith
 pub loop-turns-preserved : goal.loop-turns-preserved
 loop-turns-preserved c = let l = c.loop-turns in
     let t = c.take_loaded-run.ensures in
-    (t.0, search rules, search rules, search rules, (_, reads_behind l.run.begun l.invariant.4.0 l.invariant.4.1 c.if-run.true c.read_behind-loaded.ensures t.1))
+    (t.begun_in_bounds, search rules, search rules, search rules, (_, reads_behind l.run.begun l.invariant.4.0 l.invariant.4.1 c.if-run.true c.read_behind-loaded.ensures t.serves))
 
 pub returns-else-run : goal.returns-else-run
 returns-else-run c = let i = c.loop-turns.invariant.4 in record { bytes = i.0; all = i.1.ended }

@@ -9,4 +9,4 @@ use Rattle.log_text.proofs.show.take_block.Goals as goal
 pub returns : goal.returns
 returns c = let a = c.args in
     let p = c.requires in
-    (omega arith, record { left_over = left_moved a.block.now _ a.end p.0 c.move_front.ensures; lines = hands_as (ap record_lines (part_start a.end a.block.now)) c.print_records-output.ensures; going = c.is_whole.ensures; ended = refl })
+    record { begun_in_bounds = omega arith; follows = record { left_over = left_moved a.block.now _ a.end p.0 c.move_front.ensures; lines = hands_as (ap record_lines (part_start a.end a.block.now)) c.print_records-output.ensures; going = c.is_whole.ensures; ended = refl } }

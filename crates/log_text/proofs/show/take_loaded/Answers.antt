@@ -11,7 +11,7 @@ use Rattle.log_text.proofs.show.take_loaded.Goals as goal
 
 pub returns-then-n-eq0 : goal.returns-then-n-eq0
 returns-then-n-eq0 c = let a = c.args in
-    (omega arith, serves_end c.in-Bytes.is c.if-n-eq0.true (record { last = hands_as (ap last_text (part_start a.run.begun a.block.now)) c.print_last-last.ensures; going = refl; ended = refl }))
+    record { begun_in_bounds = omega arith; serves = serves_end c.in-Bytes.is c.if-n-eq0.true (record { last = hands_as (ap last_text (part_start a.run.begun a.block.now)) c.print_last-last.ensures; going = refl; ended = refl }) }
 
 pub overflow_add-begun : goal.overflow_add-begun
 overflow_add-begun c = let a = c.args in
@@ -26,9 +26,9 @@ take_block-requires c = let a = c.args in
     (omega (arith, h.0, z, c.requires.1), c.requires.2)
 
 pub returns-in-Failed : goal.returns-in-Failed
-returns-in-Failed c = let s = c.stopped.ensures in (omega (arith, s.0), serves_failed c.in-Failed.is (record { same = s.1; going = s.2; ended = s.3 }))
+returns-in-Failed c = let s = c.stopped.ensures in record { begun_in_bounds = omega (arith, s.0); serves = serves_failed c.in-Failed.is (record { same = s.1; going = s.2; ended = s.3 }) }
 
 pub returns-else-n-eq0 : goal.returns-else-n-eq0
 returns-else-n-eq0 c = let a = c.args in
     let t = c.take_block.ensures in
-    (t.0, serves_bytes c.in-Bytes.is c.if-n-eq0.false (take-add a.run.begun _ a.block.now) t.1)
+    record { begun_in_bounds = t.begun_in_bounds; serves = serves_bytes c.in-Bytes.is c.if-n-eq0.false (take-add a.run.begun _ a.block.now) t.follows }

@@ -9,4 +9,4 @@ pub returns-else-n-past : goal.returns-else-n-past
 returns-else-n-past c = past_more _ _ c.in-PastLimit.is (omega arith)
 
 pub returns-in_default : goal.returns-in_default
-returns-in_default c = past_same _ _ c.in_default.keys2
+returns-in_default c = past_same _ _ c.in_default.not-PastLimit

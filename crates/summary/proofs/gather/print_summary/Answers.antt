@@ -9,7 +9,7 @@ pub slice_bounds-write_lines-end : goal.slice_bounds-write_lines-end
 slice_bounds-write_lines-end c = let w = c.put_summary.ensures in omega (arith, wrote_length w, (wrote_done w c.in-Done.is).0)
 
 pub write_lines-requires : goal.write_lines-requires
-write_lines-requires c = part_start c.in-Done.n c.put_summary.new.1.1.0
+write_lines-requires c = part_start c.in-Done.n c.put_summary.new.out
 
 pub returns-in-Done : goal.returns-in-Done
 returns-in-Done c = prints_done (sym c.lines_buffer-out.ensures) c.put_summary.ensures c.in-Done.is c.write_lines.ensures

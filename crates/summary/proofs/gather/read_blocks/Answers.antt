@@ -1,4 +1,5 @@
 use mathlib.Core.Path.{refl}
+use mathlib.Core.List.{[]}
 use borrow.Author.Rules.{rules}
 use Rattle.summary.proofs.GatherLaws.{reads_on}
 use Rattle.summary.proofs.gather.read_blocks.Goals as goal
