@@ -16,7 +16,7 @@ pub bounds-bytes-i : goal.bounds-bytes-i
 bounds-bytes-i c = omega arith
 
 pub overflow_add-n : goal.overflow_add-n
-overflow_add-n c = let l = c.loop-i in omega (arith, small l.n l.i l.invariant.2 (omega arith), c.shared_slice_known-in-loop-i-1.given l.i)
+overflow_add-n c = let l = c.loop-i in omega (arith, small l.n l.i l.invariant.2 (omega arith), c.type_inv.bytes l.i)
 
 pub overflow_add-i : goal.overflow_add-i
 overflow_add-i c = omega arith
@@ -28,7 +28,7 @@ pub loop-i-preserved : goal.loop-i-preserved
 loop-i-preserved c = let l = c.loop-i in
     let s = c.args.bytes.now in
     let e = c.wide.ensures in
-    let b : get_or s l.i 0 < 256 = omega (arith, c.shared_slice_known-in-loop-i-1.given l.i) in
+    let b : get_or s l.i 0 < 256 = omega (arith, c.type_inv.bytes l.i) in
     (omega arith, omega arith, rw e (grow l.n l.i _ l.invariant.2 b), rw e (number_on s l.n l.i c.loop-i-test.true ∙ l.invariant.3))
 
 pub returns : goal.returns
