@@ -1,9 +1,7 @@
 use borrow.Author.Tests.{not-true, not-false}
 use Rattle.record_log.proofs.RecogniseLaws.{records_on, records_stop, records_end}
 use mathlib.Core.Path.{refl, sym, ◌∙◌}
-use Prim.Native.Nat.{◌-◌}
 use native.Mathlib.Omega.{arith}
-use Rattle.record_log.specs.Recognised.{is_record}
 use Rattle.record_log.proofs.recognise.all_records.Goals as goal
 
 pub loop-at-init : goal.loop-at-init
