@@ -12,7 +12,7 @@ impl Path {
     pub const BYTES: usize = 1024;
 }
 
-// What the command stands for in a path.
+// The byte of a path that the command takes the place of.
 const STAR: u8 = b'*';
 
 // The path with each `*` replaced by the command, once, from the buffer's beginning on, or that it does not fit.

@@ -16,7 +16,7 @@ use Rattle.question.specs.Password.{password_needed}
 use Rattle.options.specs.Options.{Options, no_options, over, auth_or, timeout_or, nargs_allow}
 use Rattle.options.specs.Arguments.{ArgumentPattern, arguments_pass, in_force}
 use Rattle.options.specs.Read.{options_of, arguments_of}
-use Rattle.entry.specs.Field.{Entry, pairs}
+use Rattle.entry.specs.Field.{Entry}
 use Rattle.entry.specs.Entry.{conditions_accept}
 use Rattle.entry.specs.Path.{path_for}
 use Rattle.entry.specs.Verdict.{Verdict, permit, password, stopped_by_nargs, stopped_by_argument, stopped_by_path, verdict_on, verdict_if, verdict_of}

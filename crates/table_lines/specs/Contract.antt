@@ -24,7 +24,6 @@ use Rattle.entry_line.specs.declared.decide.Decided.{Decided}
 use Rattle.reader.specs.State.{State, Decision, decided_at, scope_of, with_definition, with_entry}
 use Rattle.reader.specs.Colon.{define_line, global_line}
 use Rattle.reader.specs.Read.{judge_for, line_read}
-use Rattle.reader.specs.Contract.{scope_for}
 use Rattle.table_lines.specs.declared.Decision.{Decision as CodeDecision}
 use Rattle.table_lines.specs.declared.LinesOutcome.{LinesOutcome}
 use Rattle.table_lines.specs.declared.LinesOutcome.TheVariants.{Refused, Cut, Done}

@@ -1,7 +1,5 @@
-use Rattle.std.proofs.Common.{◌≡◌, ℕ, ◌+◌, sym, ◌∙◌, drop, arith}
+use Rattle.std.proofs.Common.{sym, ◌∙◌, drop, arith}
 use Rattle.line.specs.Contract.{fields_in}
-use Rattle.line.specs.Kind.{kind_of_line}
-use Rattle.line.specs.declared.kind.LineKind.TheVariants.{Colon}
 use Rattle.reader.proofs.ControlLineLaws.{line_room, scope_parts, line_nothing, line_entry, line_early, line_word, if_deep, if_compared}
 use Rattle.reader.proofs.control_line.+control_line.Goals as goal
 

@@ -1,4 +1,4 @@
-use Prim.Native.Nat.{ℕ, ◌-◌}
+use Prim.Native.Nat.{ℕ}
 use mathlib.Core.Path.{◌≡◌, sym, ◌∙◌}
 use native.Mathlib.Omega.{arith}
 use borrow.Author.Rules.{rules}
@@ -16,7 +16,7 @@ pub returns-in_default : goal.returns-in_default
 returns-in_default c = record { gives = λ q a. so_cut (c.loop-at.invariant.4 q a) c.loop-at-test.true (rw c.in_default.is at c.control_end.ensures) }
 
 pub overflow_add-number : goal.overflow_add-number
-overflow_add-number c = let w = rw c.in-At.is at c.control_end.ensures in omega (arith, w.few, w.high, c.loop-at.invariant.0, c.loop-at.invariant.1, c.type_inv)
+overflow_add-number c = let w = rw c.in-At.is at c.control_end.ensures in omega (arith, w.few, w.high, c.loop-at.invariant.0, c.loop-at.invariant.1)
 
 pub overflow_sub-end : goal.overflow_sub-end
 overflow_sub-end c = let w = rw c.in-At.is at c.control_end.ensures in omega (arith, w.low, w.high)
