@@ -1,5 +1,4 @@
 use mathlib.Core.Path.{ap}
-use borrow.Enum.Refused.{opened}
 use Rattle.su_console.specs.Explained.{su_finding}
 use Rattle.su_console.specs.Words.{long_file_words, su_refused_byte_words, su_cut_short_words, malformed_line_words}
 use Rattle.su_console.proofs.ExplainLaws.{explained_by, finding_byte, finding_cut, finding_line, finding_ok}
@@ -26,4 +25,4 @@ unfolding malformed_line_words
 returns-in-MalformedLine c = explained_by _ _ _ c.put_name-named.ensures c.then_refusal_at-in-MalformedLine.ensures (finding_line _ c.in-MalformedLine.is)
 
 pub returns-in_default : goal.returns-in_default
-returns-in_default c = explained_by _ _ _ c.put_name-named.ensures c.then_all-in_default.ensures (finding_ok _ _ (opened c.in_default.in_default-own.keys6))
+returns-in_default c = explained_by _ _ _ c.put_name-named.ensures c.then_all-in_default.ensures (finding_ok _ _ c.in_default.in_default-own.keys6)
