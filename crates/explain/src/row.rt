@@ -9,6 +9,9 @@ use text::buffer::Filled;
 use text::class::{Class, class_of};
 use text::slice::byte_from;
 
+// The first byte that moves no cursor, a space.
+const SPACE: u8 = 32;
+
 // Where a byte is printed.
 #[derive(Clone, Copy)]
 pub enum Row {
@@ -31,7 +34,7 @@ fn shown_in(row: Row, b: u8) -> u8
         },
         Row::Caret => { if b == b'\t' { b } else { b' ' } }
         Row::Name => {
-            if b < 32 {
+            if b < SPACE {
                 b'?'
             } else {
                 if b == 127 { b'?' } else { b }

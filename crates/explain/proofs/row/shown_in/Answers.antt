@@ -15,11 +15,11 @@ returns-then-b-eq9 c = shown_tab _ c.in-Caret.is c.if-b-eq9.true
 pub returns-else-b-eq9 : goal.returns-else-b-eq9
 returns-else-b-eq9 c = shown_space _ c.in-Caret.is c.if-b-eq9.false
 
-pub returns-then-b-lt32 : goal.returns-then-b-lt32
-returns-then-b-lt32 c = shown_low _ c.in-Name.is c.if-b-lt32.true
+pub returns-then-b-lt-SPACE : goal.returns-then-b-lt-SPACE
+returns-then-b-lt-SPACE c = shown_low _ c.in-Name.is c.if-b-lt-SPACE.true
 
 pub returns-then-b-eq127 : goal.returns-then-b-eq127
-returns-then-b-eq127 c = shown_delete _ c.in-Name.is c.if-b-lt32.false c.if-b-eq127.true
+returns-then-b-eq127 c = shown_delete _ c.in-Name.is c.if-b-lt-SPACE.false c.if-b-eq127.true
 
 pub returns-else-b-eq127 : goal.returns-else-b-eq127
-returns-else-b-eq127 c = shown_other _ c.in-Name.is c.if-b-lt32.false c.if-b-eq127.false
+returns-else-b-eq127 c = shown_other _ c.in-Name.is c.if-b-lt-SPACE.false c.if-b-eq127.false
