@@ -1,5 +1,3 @@
-use native.Mathlib.Omega.{arith}
-use Rattle.text.proofs.Buffers.{wrote_length}
 use Rattle.log_text.specs.Printed.{fields_text}
 use Rattle.log_text.proofs.print.put_fields.Goals as goal
 
