@@ -1,6 +1,5 @@
 use borrow.Author.Tests.{not-true, not-false}
 use Rattle.answer.proofs.CallLaws.{asked_with, call_small, call_malformed, call_read, asks_none, asks_some}
-use Rattle.answer.proofs.call.answer.Reads as reads
 use Rattle.answer.proofs.call.answer.Goals as goal
 
 pub returns-then-buffer-lt-BUFFER : goal.returns-then-buffer-lt-BUFFER

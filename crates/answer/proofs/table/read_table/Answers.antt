@@ -1,7 +1,6 @@
 use mathlib.Core.Path.{refl, sym, ap, ◌∙◌}
 use Rattle.answer.specs.Meaning.{settled}
 use Rattle.answer.proofs.TableLaws.{table_by}
-use Rattle.answer.proofs.table.read_table.Reads as reads
 use Rattle.answer.proofs.table.read_table.Goals as goal
 
 pub returns-in-Long : goal.returns-in-Long
