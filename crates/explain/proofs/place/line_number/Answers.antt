@@ -1,5 +1,4 @@
 use mathlib.Core.Path.{◌∙◌}
-use Prim.Native.Nat.{◌-◌}
 use native.Mathlib.Omega.{arith}
 use Rattle.explain.proofs.PlaceLaws.{number_start, number_newline, number_other, number_end}
 use Rattle.explain.proofs.place.line_number.Goals as goal

@@ -1,8 +1,6 @@
 use mathlib.Core.Path.{refl}
-use Prim.Native.Nat.{◌-◌}
 use native.Mathlib.Omega.{arith}
 use borrow.Author.Rules.{rules}
-use Rattle.explain.specs.Explained.{shown_in}
 use Rattle.output.proofs.BehindLaws.{after_then, after_as, after_none}
 use Rattle.explain.proofs.RowLaws.{row_next, row_end}
 use Rattle.explain.proofs.row.then_row.Goals as goal
