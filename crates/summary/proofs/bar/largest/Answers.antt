@@ -1,5 +1,4 @@
 use mathlib.Core.Path.{sym, ◌∙◌}
-use Prim.Native.Nat.{◌-◌}
 use native.Mathlib.Omega.{arith}
 use Rattle.summary.proofs.BarLaws.{larger_start, larger_next, larger_end}
 use Rattle.summary.proofs.bar.largest.Goals as goal
