@@ -34,14 +34,14 @@ returns-in-Written c = let a = c.args in
     let p = part_length a.records.now w e.result g in
     let h = c.respond_from.ensures in
     let k = c.in-Written.is in
-    let cut : a.progress.line - 0 ≡ a.progress.line = omega arith in (
-      (omega arith, omega (arith, response_room _ _ _ _ _ _ h k), omega (arith, p, record_room _ _ _ _ _ _ h k (logged_short _ _ _) a.logged (p ∙ z))),
-      record {
+    let cut : a.progress.line - 0 ≡ a.progress.line = omega arith in record {
+      within = (omega arith, omega (arith, response_room _ _ _ _ _ _ h k), omega (arith, p, record_room _ _ _ _ _ _ h k (logged_short _ _ _) a.logged (p ∙ z)));
+      put = record {
         line = refl;
         answers = response_behind _ _ _ _ _ _ h k _ _ _ (omega arith) ∙ ap (λ (m : ℕ). take a.progress.answers a.out.now ++ response_from a.source a.file.now (take m a.line.now)) cut;
         records = record_behind _ _ _ _ _ _ h k (logged_short _ _ _) a.logged (p ∙ z) _ _ _ (omega arith) ∙ ap (λ (m : ℕ). take w a.records.now ++ cond a.logged (logged_from a.source a.file.now (take m a.line.now)) []) cut;
-      },
-    )
+      };
+    }
 
 pub returns-in-SmallBuffer : goal.returns-in-SmallBuffer
 returns-in-SmallBuffer c = let h = small_buffer _ _ _ _ _ _ c.respond_from.ensures c.in-SmallBuffer.is in absurd (omega (arith, h))

@@ -19,7 +19,7 @@ has_to_wait-requires c = let l = c.loop-i in (l.invariant.1.1, l.invariant.1.2)
 pub returns-then-has_to_wait : goal.returns-then-has_to_wait
 returns-then-has_to_wait c = let l = c.loop-i in
     let n = c.has_to_wait.ensures.waits c.if-has_to_wait.true in
-    (record { within = l.invariant.1; part = l.invariant.0; stops = λ h. n; moves = λ r h. moved l.i l.invariant.5 n r }, l.invariant.6)
+    record { reached = record { within = l.invariant.1; part = l.invariant.0; stops = λ h. n; moves = λ r h. moved l.i l.invariant.5 n r }; takes = l.invariant.6 }
 
 pub take_byte-progress-requires : goal.take_byte-progress-requires
 take_byte-progress-requires c = (c.loop-i.invariant.1, waits_as c.if-has_to_wait.false c.has_to_wait.ensures)
@@ -27,8 +27,8 @@ take_byte-progress-requires c = (c.loop-i.invariant.1, waits_as c.if-has_to_wait
 pub loop-i-preserved : goal.loop-i-preserved
 loop-i-preserved c = let l = c.loop-i in
     let t = c.take_byte-progress.ensures in
-    (omega arith, t.0, search rules, search rules, search rules, λ e. absurd (omega arith), takes_next _ _ _ c.requires.0 _ l.i (omega arith) l.invariant.6 (takes_sized _ _ l.invariant.2 t.1))
+    (omega arith, t.within, search rules, search rules, search rules, λ e. absurd (omega arith), takes_next _ _ _ c.requires.0 _ l.i (omega arith) l.invariant.6 (takes_sized _ _ l.invariant.2 t.takes))
 
 pub returns : goal.returns
 returns c = let l = c.loop-i in
-    (record { within = l.invariant.1; part = l.invariant.0; stops = λ h. absurd (omega arith); moves = λ r h. omega arith }, l.invariant.6)
+    record { reached = record { within = l.invariant.1; part = l.invariant.0; stops = λ h. absurd (omega arith); moves = λ r h. omega arith }; takes = l.invariant.6 }

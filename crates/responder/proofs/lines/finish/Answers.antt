@@ -10,7 +10,7 @@ pub returns : goal.returns
 returns c = let w = c.write_waiting-written in
     let e = c.stopped.ensures in
     let a = c.answer_last-last in
-    let p = c.requires in (
-      ready_halted w.result e (omega (arith, w.ensures.line, a.ensures.0.0), w.ensures.answers, w.ensures.records, p.3, omega (arith, p.4), omega (arith, p.5)),
-      record { waiting = _; ends = a.ensures.1; handed = handed_halted e w.ensures.handed; left = stand_halted _ _ _ a.result w.result e w.ensures.line w.ensures.answers w.ensures.records; stops = ap (λ (r : Run). r.going) e },
-    )
+    let p = c.requires in record {
+      ready = ready_halted w.result e (omega (arith, w.ensures.line, a.ensures.within.0), w.ensures.answers, w.ensures.records, p.3, omega (arith, p.4), omega (arith, p.5));
+      finishes = record { waiting = _; ends = a.ensures.ends; handed = handed_halted e w.ensures.handed; left = stand_halted _ _ _ a.result w.result e w.ensures.line w.ensures.answers w.ensures.records; stops = ap (λ (r : Run). r.going) e };
+    }

@@ -20,8 +20,8 @@ pub loop-turns-preserved : goal.loop-turns-preserved
 loop-turns-preserved c = let l = c.loop-turns in
     let t = c.take_loaded-run.ensures in
     let r = l.invariant.0 in
-    let s = so_far_serves _ _ _ (rw (← l.invariant.1) r.3) _ _ (serves_sized _ _ _ l.invariant.1 t.1) (rw r.1) (rw r.2) (rw t.0.1) (rw t.0.2) (l.invariant.5 c.if-run.true) in
-    (t.0, search rules, search rules, search rules, search rules, s.0, s.1)
+    let s = so_far_serves _ _ _ (rw (← l.invariant.1) r.3) _ _ (serves_sized _ _ _ l.invariant.1 t.serves) (rw r.1) (rw r.2) (rw t.ready.1) (rw t.ready.2) (l.invariant.5 c.if-run.true) in
+    (t.ready, search rules, search rules, search rules, search rules, s.0, s.1)
 
 pub returns-else-run : goal.returns-else-run
 returns-else-run c = c.loop-turns.invariant.6

@@ -16,19 +16,19 @@ pub answer_block-taken-requires : goal.answer_block-taken-requires
 answer_block-taken-requires c = let r = c.loop-i.invariant.1 in (r.3, (r.0, omega (arith, r.1), omega (arith, r.2)))
 
 pub write_waiting-run-requires : goal.write_waiting-run-requires
-write_waiting-run-requires c = let w = c.answer_block-taken.ensures.0.within in (w.1, w.2)
+write_waiting-run-requires c = let w = c.answer_block-taken.ensures.reached.within in (w.1, w.2)
 
 pub overflow_add-i : goal.overflow_add-i
 overflow_add-i c = let l = c.loop-i in
     let s = c.args.block.now in
     let z = ap length (part_rest l.i s) ∙ length-drop l.i s in
-    omega (arith, c.answer_block-taken.ensures.0.part, z, l.invariant.0, c.type_inv)
+    omega (arith, c.answer_block-taken.ensures.reached.part, z, l.invariant.0, c.type_inv)
 
 pub loop-i-smaller : goal.loop-i-smaller
 loop-i-smaller c = let l = c.loop-i in
     let s = c.args.block.now in
     let z = ap length (part_rest l.i s) ∙ length-drop l.i s in
-    let e = c.answer_block-taken.ensures.0 in
+    let e = c.answer_block-taken.ensures.reached in
     let r = l.invariant.1 in
     let m = e.moves (omega (arith, r.1, r.4), omega (arith, r.2, r.5)) (omega (arith, z, c.loop-i-test.true)) in
     omega (arith, m, e.part, z)
@@ -39,16 +39,16 @@ loop-i-preserved c = let l = c.loop-i in
     let z = ap length (part_rest l.i s) ∙ length-drop l.i s in
     let e = c.answer_block-taken.ensures in
     let w = c.write_waiting-run.ensures in (
-      omega (arith, e.0.part, z, l.invariant.0),
-      (omega (arith, w.line, e.0.within.0), w.answers, w.records, search rules, search rules, search rules),
+      omega (arith, e.reached.part, z, l.invariant.0),
+      (omega (arith, w.line, e.reached.within.0), w.answers, w.records, search rules, search rules, search rules),
       search rules,
       search rules,
       search rules,
-      served_on _ _ _ _ _ _ (part_rest l.i s) l.invariant.5 (takes_sized _ _ l.invariant.2 e.1) w.handed w.going (stand_written _ _ _ c.answer_block-taken.result.progress _ w.line w.answers w.records),
+      served_on _ _ _ _ _ _ (part_rest l.i s) l.invariant.5 (takes_sized _ _ l.invariant.2 e.takes) w.handed w.going (stand_written _ _ _ c.answer_block-taken.result.progress _ w.line w.answers w.records),
     )
 
 pub returns-else-run : goal.returns-else-run
-returns-else-run c = let l = c.loop-i in (l.invariant.1, record { bytes = l.i; served = l.invariant.5; all = not_going c.if-run.false })
+returns-else-run c = let l = c.loop-i in record { ready = l.invariant.1; follows = record { bytes = l.i; served = l.invariant.5; all = not_going c.if-run.false } }
 
 pub returns-after-loop-i : goal.returns-after-loop-i
-returns-after-loop-i c = let l = c.loop-i in (l.invariant.1, record { bytes = l.i; served = l.invariant.5; all = λ e. omega (arith, c.loop-i-test.false, l.invariant.0) })
+returns-after-loop-i c = let l = c.loop-i in record { ready = l.invariant.1; follows = record { bytes = l.i; served = l.invariant.5; all = λ e. omega (arith, c.loop-i-test.false, l.invariant.0) } }
