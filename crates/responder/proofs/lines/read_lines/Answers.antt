@@ -10,7 +10,7 @@ use Rattle.responder.proofs.lines.read_lines.Goals as goal
 pub loop-turns-init : goal.loop-turns-init
 loop-turns-init c = let p = c.requires in
     let a = c.args in
-    let s = so_far_start a.source a.file.now (length a.line.now) p.0.3 a.line.now a.out.now a.records.now p.1 p.0.1 p.0.2 (handed_none a.start (omega (arith, c.type_inv)) (omega (arith, c.type_inv))) in
+    let s = so_far_start a.source a.file.now (length a.line.now) p.0.3 a.line.now a.out.now a.records.now p.1 p.0.1 p.0.2 (handed_none a.start (omega arith) (omega arith)) in
     (p.0, refl, refl, refl, c.large_buffer-block.ensures, s.0, s.1)
 
 pub take_loaded-run-requires : goal.take_loaded-run-requires

@@ -10,7 +10,7 @@ use Rattle.responder.proofs.SeriesLaws.{takes_sized, stand_written, served_none,
 use Rattle.responder.proofs.lines.take_block.Goals as goal
 
 pub loop-i-init : goal.loop-i-init
-loop-i-init c = (omega arith, c.requires, refl, refl, refl, served_none _ _ _ _ (handed_none _ (omega (arith, c.type_inv)) (omega (arith, c.type_inv))))
+loop-i-init c = (omega arith, c.requires, refl, refl, refl, served_none _ _ _ _ (handed_none _ (omega arith) (omega arith)))
 
 pub answer_block-taken-requires : goal.answer_block-taken-requires
 answer_block-taken-requires c = let r = c.loop-i.invariant.1 in (r.3, (r.0, omega (arith, r.1), omega (arith, r.2)))
@@ -22,7 +22,7 @@ pub overflow_add-i : goal.overflow_add-i
 overflow_add-i c = let l = c.loop-i in
     let s = c.args.block.now in
     let z = ap length (part_rest l.i s) ∙ length-drop l.i s in
-    omega (arith, c.answer_block-taken.ensures.reached.part, z, l.invariant.0, c.type_inv)
+    omega (arith, c.answer_block-taken.ensures.reached.part, z, l.invariant.0)
 
 pub loop-i-smaller : goal.loop-i-smaller
 loop-i-smaller c = let l = c.loop-i in
