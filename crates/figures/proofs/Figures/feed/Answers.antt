@@ -1,5 +1,4 @@
 use mathlib.Core.Path.{refl, ◌∙◌}
-use Prim.Native.Nat.{◌-◌}
 use native.Mathlib.Omega.{arith}
 use Rattle.figures.specs.Contract.{figures_with}
 use Rattle.figures.proofs.Adding.{room_most}
