@@ -1,5 +1,4 @@
 use mathlib.Core.Path.{refl, ◌∙◌}
-use Prim.Native.Nat.{◌-◌}
 use native.Mathlib.Omega.{arith}
 use Rattle.text.proofs.Buffers.{wrote_length, wrote_then, wrote_full, wrote_as}
 use Rattle.console.proofs.PartLaws.{parts_next, parts_end}

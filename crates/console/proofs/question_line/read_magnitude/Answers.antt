@@ -1,8 +1,6 @@
 use mathlib.Core.Path.{sym, ◌∙◌}
-use Prim.Native.Nat.{◌-◌, ◌≤◌}
 use native.Mathlib.Omega.{arith}
 use borrow.Author.Tests.{not-true, not-false}
-use lib.ListN.{get_or}
 use Rattle.text.proofs.Numbers.{digit_range}
 use Rattle.console.specs.Contract.{magnitude_limit}
 use Rattle.console.proofs.NumberLaws.{magnitude_on, magnitude_off, magnitude_end, magnitude_none, magnitude_start}
