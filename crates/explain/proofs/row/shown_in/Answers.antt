@@ -1,4 +1,5 @@
 use mathlib.Core.Path.{sym, ◌∙◌}
+use native.Mathlib.Omega.{arith}
 use borrow.Enum.Refused.{opened}
 use Rattle.explain.proofs.RowLaws.{shown_accepted, shown_refused, shown_tab, shown_space, shown_low, shown_delete, shown_other}
 use Rattle.explain.proofs.row.shown_in.Goals as goal
@@ -16,10 +17,10 @@ pub returns-else-b-eq9 : goal.returns-else-b-eq9
 returns-else-b-eq9 c = shown_space _ c.in-Caret.is c.if-b-eq9.false
 
 pub returns-then-b-lt-SPACE : goal.returns-then-b-lt-SPACE
-returns-then-b-lt-SPACE c = shown_low _ c.in-Name.is c.if-b-lt-SPACE.true
+returns-then-b-lt-SPACE c = shown_low _ c.in-Name.is (omega arith)
 
 pub returns-then-b-eq127 : goal.returns-then-b-eq127
-returns-then-b-eq127 c = shown_delete _ c.in-Name.is c.if-b-lt-SPACE.false c.if-b-eq127.true
+returns-then-b-eq127 c = shown_delete _ c.in-Name.is (omega arith) c.if-b-eq127.true
 
 pub returns-else-b-eq127 : goal.returns-else-b-eq127
-returns-else-b-eq127 c = shown_other _ c.in-Name.is c.if-b-lt-SPACE.false c.if-b-eq127.false
+returns-else-b-eq127 c = shown_other _ c.in-Name.is (omega arith) c.if-b-eq127.false
