@@ -97,7 +97,7 @@ pub fn read_lines(
                 ) {
                     DefineRead::Fault(cause) => return refused(cause, begin, decision),
                     DefineRead::At(place, names, k, n) => {
-                        variables = variables.define(place, names, &name[..k], &value[..n]);
+                        variables.store(place, names, &name[..k], &value[..n]);
                         continue;
                     }
                 }

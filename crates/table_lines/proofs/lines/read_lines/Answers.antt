@@ -48,14 +48,14 @@ returns-in-Fault-read_define c = let w = rw c.in-At.is at c.control_end.ensures 
 pub slice_bounds-name-end : goal.slice_bounds-name-end
 slice_bounds-name-end c = (place_within c.read_define.ensures c.in-At-read_define.is).0
 
-pub slice_bounds-define-end : goal.slice_bounds-define-end
-slice_bounds-define-end c = sym (length-take-le _ _ (place_within c.read_define.ensures c.in-At-read_define.is).0)
+pub slice_bounds-store-end : goal.slice_bounds-store-end
+slice_bounds-store-end c = sym (length-take-le _ _ (place_within c.read_define.ensures c.in-At-read_define.is).0)
 
 pub slice_bounds-value-end : goal.slice_bounds-value-end
 slice_bounds-value-end c = (place_within c.read_define.ensures c.in-At-read_define.is).1
 
-pub slice_bounds-define-end-in-At-read_define : goal.slice_bounds-define-end-in-At-read_define
-slice_bounds-define-end-in-At-read_define c = sym (length-take-le _ _ (place_within c.read_define.ensures c.in-At-read_define.is).1)
+pub slice_bounds-store-end-in-At-read_define : goal.slice_bounds-store-end-in-At-read_define
+slice_bounds-store-end-in-At-read_define c = sym (length-take-le _ _ (place_within c.read_define.ensures c.in-At-read_define.is).1)
 
 pub loop-at-smaller-in-At-read_define : goal.loop-at-smaller-in-At-read_define
 loop-at-smaller-in-At-read_define c = let w = rw c.in-At.is at c.control_end.ensures in omega (arith, w.low, w.high)
@@ -63,9 +63,8 @@ loop-at-smaller-in-At-read_define c = let w = rw c.in-At.is at c.control_end.ens
 pub loop-at-preserved-in-At-read_define : goal.loop-at-preserved-in-At-read_define
 loop-at-preserved-in-At-read_define c = let w = rw c.in-At.is at c.control_end.ensures in
     let l = c.loop-at in
-    let bytes : length c.define-variables.result.bytes ≡ 20480 = search rules in
-    let sizes : length c.define-variables.result.sizes ≡ 128 = search rules in
-    let stores = stored_there l.variables _ _ _ _ bytes sizes c.define-variables.ensures in
+    let e = c.store.ensures in
+    let stores = stored_there l.variables _ _ _ _ e.bytes e.sizes e.stored in
     (w.high, omega (arith, w.few, l.invariant.1), c.line_action.ensures.room ∙ l.invariant.2, c.line_action.ensures.places ∙ l.invariant.3, λ q a. turn_defined (l.invariant.4 q a) w a c.line_action.ensures l.invariant.2 l.invariant.3 c.in-Define.is c.read_define.ensures c.in-At-read_define.is stores)
 
 pub slice_bounds-global-end : goal.slice_bounds-global-end
