@@ -65,8 +65,8 @@ enum {
 
 enum {
     /* The bytes of stack that suffice for a thread which makes these calls and does nothing else that is large.
-     * supertab_answer takes most, 64 KB (measured, with every table and question of the tests); supertab_su_answer takes
-     * less than 1 KB. A stack of 64 KB in all is too small for supertab_answer. */
+     * supertab_answer takes most, 42 KB (measured, with every table and question of the tests); supertab_su_answer takes
+     * less than 1 KB. The rest is for a system's own share of a thread's stack. */
     SUPERTAB_STACK = 98304
 };
 
