@@ -1,7 +1,7 @@
 #!/usr/bin/env python3
-"""convert.py CRATE NAMES.json [FUNCTION-DIR..]: at the top of a repository, turns crates/CRATE/proofs/**/F/Proof.antt
+"""convert_proofs.py CRATE NAMES.json [FUNCTION-DIR..]: at the top of a repository, turns crates/CRATE/proofs/**/F/Proof.antt
 (tie form) into Invariants.antt and Answers.antt, by the names that `rt check --generated DIR --old-names` wrote.
-What can't be mapped is written into the file F/OLD.txt (not committed) and printed."""
+What can't be mapped is printed, with the old text; it stays in the history."""
 import json, os, re, sys, glob
 
 crate, names = sys.argv[1], json.load(open(sys.argv[2]))
@@ -175,7 +175,7 @@ def convert(path):
     elif helpers: old_left += helpers
     os.remove(path)
     if old_left:
-        open(os.path.join(d, "OLD.txt"), "w").write("\n\n".join(old_left) + "\n")
+        left += old_left
     return "\n".join(f"{rel}: {x}" for x in left) or None
 
 for path in sorted(glob.glob(f"{base}/**/Proof.antt", recursive=True)):
