@@ -1,4 +1,4 @@
--- Sets (01: "`[a_z]`, `[!a-z]`, not empty, closed by the first `]`, read left to right, `x-y` a range (x not above y) unless y is that `]`, all else plain").
+-- Sets (01: "`[a-z]`, `[!a-z]`, not empty, closed by the first `]`, read left to right, `x-y` a range (x not above y) unless y is that `]`, all else plain").
 use Rattle.std.specs.Prelude.{ℕ, Bool, not, cond, ◌&&◌, List, [], ◌∷◌, leb, drop}
 use Rattle.text.specs.Bytes.{byte, is}
 use Rattle.text.specs.Class.{Range, range, in_range}
