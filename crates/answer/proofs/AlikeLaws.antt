@@ -1,8 +1,8 @@
 -- Tables that answer alike because both are too long, and what an answer 2 leaves of the buffer. Assumes nothing.
+use Rattle.std.specs.Prelude.{None, Option, Some}
 use mathlib.Core.Path.{◌≡◌, refl, sym, ap, ◌∙◌}
 use mathlib.Core.Bool.{Bool, true, false}
 use mathlib.Core.List.{List}
-use mathlib.Core.Option.{Option, none, some}
 use Prim.Native.Nat.{ℕ, ◌+◌, ◌<◌}
 use native.Mathlib.Omega.{arith}
 use borrow.Author.Tests.{lt-leb, leb-true, leb-false, eqb-true}
@@ -24,8 +24,8 @@ use Rattle.answer.proofs.MeaningLaws.{written, Leaves, buffer_left}
 -- ---- too long
 module _ (t u : List ℕ) (h : table_limit < length t) (k : table_limit < length u) (b : List ℕ) where
   table_alike : (o : Option Question) → read_table t b o ≡ read_table u b o
-  table_alike none = refl
-  table_alike (some q) = rw (lt-leb (length t) table_limit h, lt-leb (length u) table_limit k)
+  table_alike None = refl
+  table_alike (Some q) = rw (lt-leb (length t) table_limit h, lt-leb (length u) table_limit k)
 
   -- two tables over the limit answer alike, whatever is asked
   pub long_alike : (a : Asked) → answer_of t a b ≡ answer_of u a b

@@ -1,8 +1,9 @@
 -- Demand 3: a cut table answers what the whole one says, "no entry", or 13 where the cut line begins. Assumes nothing.
+use Rattle.std.specs.Option.{option_map, option_or}
+use Rattle.std.specs.Prelude.{Err, None, Ok, Option, Result, Some}
 use mathlib.Core.Path.{◌≡◌, refl, sym, ap, ◌∙◌}
 use mathlib.Core.Bool.{Bool, true, false, cond}
 use mathlib.Core.List.{List, ◌++◌}
-use mathlib.Core.Option.{Option, none, some, or_else, map}
 use Prim.Native.Nat.{ℕ, ◌≤◌}
 use native.Mathlib.Omega.{arith}
 use lib.Dec.{eqb, leb}
@@ -10,13 +11,12 @@ use lib.ListN.{length, take, length-append}
 use lib.Seq.{take_at}
 use Rattle.text.proofs.Laws.{clash, untrue}
 use Rattle.fault.specs.declared.Cause.{Cause}
-use Rattle.fault.specs.Fault.{Reading, fault, value}
 use Rattle.fault.proofs.Numbers.{above_decisions}
 use Rattle.question.specs.Question.{Question}
 use Rattle.line.specs.Line.{backslash, ends_at, cut_place}
 use Rattle.line.specs.Fold.{Refusal, faulty, cut}
-use Rattle.line.specs.declared.whole.Acceptance.{Acceptance}
-use Rattle.line.specs.declared.whole.Acceptance.TheVariants.{Accepted, Long, RefusedAt}
+use Rattle.line.specs.declared.whole.Unaccepted.{Unaccepted}
+use Rattle.line.specs.declared.whole.Unaccepted.TheVariants.{Long, RefusedAt}
 use Rattle.line.specs.Whole.{acceptance_of}
 use Rattle.line.proofs.FoldLaws.{Decides, cuts_told}
 use Rattle.line.proofs.WholeLaws.{accepted_cut}
@@ -32,36 +32,35 @@ use Rattle.answer.specs.Cut.{nothing_yet, cut_answer, CutSafe}
 use Rattle.answer.specs.Contract.{Promised}
 
 -- ---- a decision stays, and is made at the line whose number it has
-at_line_law : (line : ℕ) (v : Option Verdict) (d : Decision) → map (decided_at line) v ≡ some d → d.line ≡ line
-at_line_law line none d e = clash cc
-at_line_law line (some v) d e = let z : decided_at line v ≡ d = cc in ap (λ x. x.line) (sym z)
+at_line_law : (line : ℕ) (v : Option Verdict) (d : Decision) → option_map (decided_at line) v ≡ Some d → d.line ≡ line
+at_line_law line None d e = clash cc
+at_line_law line (Some v) d e = let z : decided_at line v ≡ d = cc in ap (λ x. x.line) (sym z)
 
 decides : (q : Question) → Decides (line_read q) (λ s. s.decision) (λ d. d.line)
-unfolding or_else
 decides q = record {
-  keeps = λ s t l d v e. let k = line_keeps q s t l e in k.decides ∙ ap (λ o. or_else o (map (decided_at l.number) k.own)) v;
-  fresh = λ s t l d v e w. let k = line_keeps q s t l e in at_line_law l.number k.own d (sym (ap (λ o. or_else o (map (decided_at l.number) k.own)) v) ∙ sym k.decides ∙ w);
+  keeps = λ s t l d v e. let k = line_keeps q s t l e in k.decides ∙ ap (λ o. option_or o (option_map (decided_at l.number) k.own)) v;
+  fresh = λ s t l d v e w. let k = line_keeps q s t l e in at_line_law l.number k.own d (sym (ap (λ o. option_or o (option_map (decided_at l.number) k.own)) v) ∙ sym k.decides ∙ w);
 }
 
 -- ---- where a table gives a decision, every check before the control lines has passed
 pub record Asks (t : List ℕ) (a : Asked) (b : List ℕ) : Type 0 where
   pub question : Question
   pub room : leb least_buffer (length b) ≡ true
-  pub good : asks a ≡ some question
-  pub accepted : acceptance_of t ≡ Accepted
+  pub good : asks a ≡ Some question
+  pub accepted : acceptance_of t ≡ Ok tt
 
 pub asked : (t : List ℕ) (a : Asked) (b : List ℕ) → is_decision (answer_of t a b) ≡ true → Asks t a b
 unfolding answer_of is_decision told_of
 asked t a b e = room (leb least_buffer (length b)) refl e
   where
-    bytes : (q : Question) → leb least_buffer (length b) ≡ true → asks a ≡ some q → (x : Acceptance) → acceptance_of t ≡ x → is_decision (read_bytes t q b x) ≡ true → Asks t a b
-    bytes q r g Accepted h f = record { question = q; room = r; good = g; accepted = h }
-    bytes q r g Long h f = untrue f
-    bytes q r g (RefusedAt p) h f = untrue f
+    bytes : (q : Question) → leb least_buffer (length b) ≡ true → asks a ≡ Some q → (x : Result Unit Unaccepted) → acceptance_of t ≡ x → is_decision (read_bytes t q b x) ≡ true → Asks t a b
+    bytes q r g (Ok x) h f = record { question = q; room = r; good = g; accepted = h }
+    bytes q r g (Err Long) h f = untrue f
+    bytes q r g (Err (RefusedAt p)) h f = untrue f
 
     good : leb least_buffer (length b) ≡ true → (o : Option Question) → asks a ≡ o → is_decision (read_table t b o) ≡ true → Asks t a b
-    good r none h f = untrue f
-    good r (some q) h f = bytes q r h (acceptance_of t) refl f
+    good r None h f = untrue f
+    good r (Some q) h f = bytes q r h (acceptance_of t) refl f
 
     room : (x : Bool) → leb least_buffer (length b) ≡ x → is_decision (cond x (read_table t b (asks a)) (result SmallBuffer b)) ≡ true → Asks t a b
     room true h f = good h (asks a) refl f
@@ -93,11 +92,11 @@ not_two b line stopped_by_argument = refl
 not_two b line stopped_by_path = refl
 
 -- ---- the cut table, by what the whole one gives
-cut_gives : (t b : List ℕ) (n : ℕ) (q : Question) → n ≤ length t → (r : Reading (Refusal Cause) (Option Decision)) → lines_give q t ≡ r → is_decision (settled b r) ≡ true → settled b (lines_give q (take n t)) ≡ cut_answer t b n (settled b r)
+cut_gives : (t b : List ℕ) (n : ℕ) (q : Question) → n ≤ length t → (r : Result (Option Decision) (Refusal Cause)) → lines_give q t ≡ r → is_decision (settled b r) ≡ true → settled b (lines_give q (take n t)) ≡ cut_answer t b n (settled b r)
 unfolding cut_answer nothing_yet is_decision told_of start
-cut_gives t b n q l (fault (faulty c p)) e f = untrue (sym (above_decisions c) ∙ f)
-cut_gives t b n q l (fault (cut p)) e f = untrue f
-cut_gives t b n q l (value o) e f =
+cut_gives t b n q l (Err (faulty c p)) e f = untrue (sym (above_decisions c) ∙ f)
+cut_gives t b n q l (Err (cut p)) e f = untrue f
+cut_gives t b n q l (Ok o) e f =
     cuts_told (line_read q) (λ s. s.decision) (λ d. d.line) (decides q) (settled b) (λ w. eqb (told_by w).number 2) deciding_line (λ d. not_two b d.line d.verdict) (λ d. line_told_law b d.line d.verdict) backslash start refl t n l o e
 
 -- for all tables, questions, buffers and cuts at once

@@ -2,6 +2,5 @@ pub mod CutLaws
 pub mod MeaningLaws
 pub mod Worked
 pub mod GrantLaws
-pub mod TableLaws
 pub mod CallLaws
 pub mod AlikeLaws

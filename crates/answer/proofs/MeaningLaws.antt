@@ -1,8 +1,8 @@
 -- What an answer leaves of the buffer, and what it tells of it. Assumes nothing.
+use Rattle.std.specs.Prelude.{Err, None, Ok, Option, Result, Some}
 use mathlib.Core.Path.{◌≡◌, refl, sym, ap, ◌∙◌}
 use mathlib.Core.Bool.{Bool, true, false, cond}
 use mathlib.Core.List.{List, [], ◌∷◌, ◌++◌, flat_map, append_assoc}
-use mathlib.Core.Option.{Option, none, some}
 use Prim.Native.Nat.{ℕ, ◌+◌, ◌-◌, ◌≤◌}
 use native.Mathlib.Omega.{arith}
 use borrow.Author.Tests.{leb-true}
@@ -12,13 +12,12 @@ use lib.Seq.{drop-set-lt, drop_at, take-append_seam}
 use Rattle.text.specs.Buffer.{laid}
 use Rattle.text.proofs.Buffers.{laid_length, laid_is}
 use Rattle.fault.specs.declared.Cause.{Cause}
-use Rattle.fault.specs.Fault.{Reading, fault, value}
 use Rattle.fault.proofs.Readings.{Gives}
 use Rattle.question.specs.Question.{Question}
 use Rattle.line.specs.Line.{backslash, lines_of}
 use Rattle.line.specs.Fold.{Refusal, faulty, cut}
-use Rattle.line.specs.declared.whole.Acceptance.{Acceptance}
-use Rattle.line.specs.declared.whole.Acceptance.TheVariants.{Accepted, Long, RefusedAt}
+use Rattle.line.specs.declared.whole.Unaccepted.{Unaccepted}
+use Rattle.line.specs.declared.whole.Unaccepted.TheVariants.{Long, RefusedAt}
 use Rattle.line.specs.Whole.{acceptance_of}
 use Rattle.line.proofs.FoldLaws.{run_keeps, run_through}
 use Rattle.options.specs.Options.{Options, id_or, auth_or}
@@ -31,7 +30,7 @@ use Rattle.table_lines.specs.Lines.{lines_give}
 use Rattle.answer.specs.declared.Answer.{Answer}
 use Rattle.answer.specs.declared.Answer.TheVariants.{SmallBuffer}
 use Rattle.answer.specs.Answer.{least_buffer, Outcome, result, Grant, Beside, Told, told, granted, at_line, at_place, string_in, grant_in, told_of, told_by}
-use Rattle.answer.specs.Meaning.{Asked, asks, ended, strings, timeout_told, count_told, granted_by, resolved, settled, read_bytes, read_table, answer_of}
+use Rattle.answer.specs.Meaning.{Asked, asks, ended, strings, count_told, granted_by, resolved, settled, read_bytes, read_table, answer_of}
 use Rattle.answer.proofs.CutLaws.{Asks, read}
 
 -- the bytes that an answer tells as written: none but for 0 and 1
@@ -80,12 +79,12 @@ leaves_resolved b line stopped_by_nargs h = untouched _ b refl
 leaves_resolved b line stopped_by_argument h = untouched _ b refl
 leaves_resolved b line stopped_by_path h = untouched _ b refl
 
-leaves_settled : (b : List ℕ) (r : Reading (Refusal Cause) (Option Decision)) → Gives ShortDecision r → Leaves b (settled b r)
+leaves_settled : (b : List ℕ) (r : Result (Option Decision) (Refusal Cause)) → Gives ShortDecision r → Leaves b (settled b r)
 unfolding told_of
-leaves_settled b (fault (faulty c p)) h = untouched _ b refl
-leaves_settled b (fault (cut p)) h = untouched _ b refl
-leaves_settled b (value none) h = untouched _ b refl
-leaves_settled b (value (some d)) h = leaves_resolved b d.line d.verdict (h (some d) refl)
+leaves_settled b (Err (faulty c p)) h = untouched _ b refl
+leaves_settled b (Err (cut p)) h = untouched _ b refl
+leaves_settled b (Ok None) h = untouched _ b refl
+leaves_settled b (Ok (Some d)) h = leaves_resolved b d.line d.verdict (h (Some d) refl)
 
 short_lines : (q : Question) (t : List ℕ) → Gives ShortDecision (lines_give q t)
 short_lines q t o e =
@@ -94,13 +93,13 @@ short_lines q t o e =
 
 leaves_table : (t b : List ℕ) (o : Option Question) → Leaves b (read_table t b o)
 unfolding told_of
-leaves_table t b none = untouched _ b refl
-leaves_table t b (some q) = bytes (acceptance_of t)
+leaves_table t b None = untouched _ b refl
+leaves_table t b (Some q) = bytes (acceptance_of t)
   where
-    bytes : (x : Acceptance) → Leaves b (read_bytes t q b x)
-    bytes Long = untouched _ b refl
-    bytes (RefusedAt p) = untouched _ b refl
-    bytes Accepted = leaves_settled b (lines_give q t) (short_lines q t)
+    bytes : (x : Result Unit Unaccepted) → Leaves b (read_bytes t q b x)
+    bytes (Err Long) = untouched _ b refl
+    bytes (Err (RefusedAt p)) = untouched _ b refl
+    bytes (Ok x) = leaves_settled b (lines_give q t) (short_lines q t)
 
 -- every answer keeps the buffer's length, tells at most 1,285 bytes as written, and leaves all behind them as they were; a refusal and the answers 2 to 5 tell none, and so leave the whole buffer
 pub buffer_left : (t : List ℕ) (a : Asked) (b : List ℕ) → Leaves b (answer_of t a b)
@@ -141,7 +140,7 @@ grant_of line path o = record {
   gid = id_or o.gid;
   egid = id_or o.egid;
   auth = auth_or o.auth;
-  timeout = timeout_told o.timeout;
+  timeout = o.timeout;
   nargs = count_told o.nargs;
   written = length (strings path o);
 }
@@ -171,5 +170,5 @@ module _ (b : List ℕ) (line : ℕ) (room : 2048 ≤ length b) where
   told_resolved stopped_by_path h = refl
 
 -- a decision tells the line of its entry, and beside 0 and 1 the entry's own path and the options in force for it
-pub decision_told : {t : List ℕ} {a : Asked} {b : List ℕ} (w : Asks t a b) (d : Decision) → lines_give w.question t ≡ value (some d) → told_by (answer_of t a b) ≡ verdict_told d.line d.verdict
-decision_told {t} {a} {b} w d e = rw (read w, e) (told_resolved b d.line (leb-true least_buffer (length b) w.room) d.verdict (short_lines w.question t (some d) e))
+pub decision_told : {t : List ℕ} {a : Asked} {b : List ℕ} (w : Asks t a b) (d : Decision) → lines_give w.question t ≡ Ok (Some d) → told_by (answer_of t a b) ≡ verdict_told d.line d.verdict
+decision_told {t} {a} {b} w d e = rw (read w, e) (told_resolved b d.line (leb-true least_buffer (length b) w.room) d.verdict (short_lines w.question t (Some d) e))

@@ -1,8 +1,7 @@
 -- 01's number for every answer, and what is returned beside it (01, "Answer numbers").
-use Rattle.std.specs.Prelude.{ℕ, ◌-◌, Bool, List, leb, take, drop}
+use Rattle.std.specs.Prelude.{ℕ, ℤ, ◌-◌, Bool, List, leb, take, drop, Option}
 use Rattle.fault.specs.Fault.{number_of}
 use Rattle.line.specs.Line.{table_limit}
-use Rattle.options.specs.declared.timeout.Timeout.{Timeout}
 use Rattle.options.specs.declared.span.Span.{Span}
 use Rattle.answer.specs.declared.Granted.{Granted}
 use Rattle.answer.specs.declared.Answer.{Answer}
@@ -30,8 +29,8 @@ pub record Grant : Type 0 where
   pub gid : List ℕ
   pub egid : List ℕ
   pub auth : Bool
-  pub timeout : Timeout
-  pub nargs : Span
+  pub timeout : (Option ℤ)
+  pub nargs : (Option Span)
   pub written : ℕ
 
 -- what is returned beside a number: a grant, a line, or a place

@@ -1,26 +1,21 @@
 -- The answer to a question from a table, and the buffer after it: the order of refusals, all control lines, then the decision.
-use Rattle.std.specs.Prelude.{ℕ, ◌+◌, cond, ℤ, leb, length}
+use Rattle.question.specs.declared.Age.{Age}
+use Rattle.std.specs.Prelude.{ℕ, ◌+◌, cond, ℤ, leb, length, Err, None, Ok, Option, Result, Some}
 use mathlib.Core.List.{List, [], ◌∷◌, ◌++◌, flat_map}
-use Rattle.std.proofs.Math.Option.{Option, none, some}
 use Rattle.text.specs.Buffer.{laid}
-use Rattle.fault.specs.Fault.{Reading, fault, value}
 use Rattle.fault.specs.declared.Cause.{Cause}
 use Rattle.question.specs.declared.WeekMinute.{WeekMinute}
-use Rattle.question.specs.declared.LastAuthentication.{LastAuthentication}
 use Rattle.question.specs.Question.{Question, question_of}
 use Rattle.line.specs.Fold.{Refusal, faulty, cut}
-use Rattle.line.specs.declared.whole.Acceptance.{Acceptance}
-use Rattle.line.specs.declared.whole.Acceptance.TheVariants.{Accepted, Long, RefusedAt}
+use Rattle.line.specs.declared.whole.Unaccepted.{Unaccepted}
+use Rattle.line.specs.declared.whole.Unaccepted.TheVariants.{Long, RefusedAt}
 use Rattle.line.specs.Whole.{acceptance_of}
 use Rattle.text.specs.Class.{Range}
 use Rattle.options.specs.Options.{Options, auth_or, id_or}
 use Rattle.entry.specs.Verdict.{Verdict, permit, password, stopped_by_nargs, stopped_by_argument, stopped_by_path}
 use Rattle.reader.specs.State.{Decision}
 use Rattle.table_lines.specs.Lines.{lines_give}
-use Rattle.options.specs.declared.timeout.Timeout.{Timeout}
-use Rattle.options.specs.declared.timeout.Timeout.TheVariants.{Unset, Minutes}
 use Rattle.options.specs.declared.span.Span.{Span}
-use Rattle.options.specs.declared.span.Span.TheVariants.{Nothing, Between}
 use Rattle.answer.specs.declared.Granted.{Granted}
 use Rattle.answer.specs.declared.Answer.TheVariants.{Permit, Password, NoEntry, StoppedByNargs, StoppedByArgument, StoppedByPath, MalformedQuestion, LongTable, RefusedByte, CutShort, RefusedLine, SmallBuffer}
 use Rattle.answer.specs.Answer.{least_buffer, Outcome, result}
@@ -32,7 +27,7 @@ pub record Asked : Type 0 where
   pub groups : List ℕ
   pub host : List ℕ
   pub minute : WeekMinute
-  pub age : LastAuthentication
+  pub age : (Option Age)
   pub args : List ℕ
 
 -- the question that they ask, if it is a good one
@@ -47,15 +42,10 @@ ended s = s ++ 0 ∷ []
 unfoldable pub strings : List ℕ → Options → List ℕ
 strings path o = flat_map ended (path ∷ id_or o.uid ∷ id_or o.euid ∷ id_or o.gid ∷ id_or o.egid ∷ [])
 
--- an effective timeout, which may be unset
-abbrev pub timeout_told : Option ℤ → Timeout
-timeout_told none = Unset
-timeout_told (some t) = Minutes t
-
 -- how many arguments are allowed, if that is set
-abbrev pub count_told : Option Range → Span
-count_told none = Nothing
-count_told (some r) = Between r.low r.high
+abbrev pub count_told : Option Range → Option Span
+count_told None = None
+count_told (Some r) = Some (record { low = r.low; high = r.high })
 
 -- line, where each string ends, effective options
 unfoldable pub granted_by : ℕ → List ℕ → Options → Granted
@@ -64,7 +54,7 @@ granted_by line path o =
     let u = p + length (ended (id_or o.uid)) in
     let e = u + length (ended (id_or o.euid)) in
     let g = e + length (ended (id_or o.gid)) in
-    record { line = line; path = p; uid = u; euid = e; gid = g; egid = g + length (ended (id_or o.egid)); auth = auth_or o.auth; timeout = timeout_told o.timeout; nargs = count_told o.nargs }
+    record { line = line; path = p; uid = u; euid = e; gid = g; egid = g + length (ended (id_or o.egid)); auth = auth_or o.auth; timeout = o.timeout; nargs = count_told o.nargs }
 
 -- "The lent answer buffer is changed by 0 and 1 only: it then begins with five strings .. Later bytes stay"
 abbrev pub resolved : List ℕ → ℕ → Verdict → Outcome
@@ -75,22 +65,22 @@ resolved b line stopped_by_argument = result (StoppedByArgument line) b
 resolved b line stopped_by_path = result (StoppedByPath line) b
 
 -- the first faulty line; else a cut line; else the decision
-abbrev pub settled : List ℕ → Reading (Refusal Cause) (Option Decision) → Outcome
-settled b (fault (faulty c p)) = result (RefusedLine c p) b
-settled b (fault (cut p)) = result (CutShort p) b
-settled b (value none) = result NoEntry b
-settled b (value (some d)) = resolved b d.line d.verdict
+abbrev pub settled : List ℕ → Result (Option Decision) (Refusal Cause) → Outcome
+settled b (Err (faulty c p)) = result (RefusedLine c p) b
+settled b (Err (cut p)) = result (CutShort p) b
+settled b (Ok None) = result NoEntry b
+settled b (Ok (Some d)) = resolved b d.line d.verdict
 
 -- the length (11), the bytes (12), then what the lines give
-abbrev pub read_bytes : List ℕ → Question → List ℕ → Acceptance → Outcome
-read_bytes t q b Long = result LongTable b
-read_bytes t q b (RefusedAt p) = result (RefusedByte p) b
-read_bytes t q b Accepted = settled b (lines_give q t)
+abbrev pub read_bytes : List ℕ → Question → List ℕ → Result Unit Unaccepted → Outcome
+read_bytes t q b (Err Long) = result LongTable b
+read_bytes t q b (Err (RefusedAt p)) = result (RefusedByte p) b
+read_bytes t q b (Ok x) = settled b (lines_give q t)
 
 -- 10 first
 abbrev pub read_table : List ℕ → List ℕ → Option Question → Outcome
-read_table t b none = result MalformedQuestion b
-read_table t b (some q) = read_bytes t q b (acceptance_of t)
+read_table t b None = result MalformedQuestion b
+read_table t b (Some q) = read_bytes t q b (acceptance_of t)
 
 -- "Order: 17, 10, 11, 12 (first such byte), then control lines in table order, the first faulty one deciding .. Only then the decision"
 unfoldable pub answer_of : List ℕ → Asked → List ℕ → Outcome

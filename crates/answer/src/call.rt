@@ -5,7 +5,7 @@ ghost use Rattle.answer.specs.Contract.{asking, Promised};
 use super::Answer;
 use super::table::read_table;
 use question::form::question_is_good;
-use question::{LastAuthentication, WeekMinute};
+use question::{Age, WeekMinute};
 
 // The answer to a question from a table. Groups and arguments are zero-ended strings one after the other; the buffer is
 // changed by a permit only, with and without a password.
@@ -16,7 +16,7 @@ pub fn answer(
     groups: &[u8],
     host: &[u8],
     minute: WeekMinute,
-    last: LastAuthentication,
+    last: Option<Age>,
     args: &[u8],
     buffer: &mut [u8],
 ) -> Answer

@@ -8,7 +8,6 @@ mod table; // the control lines of a table, one after the other
 
 use fault::Cause;
 use options::span::Span;
-use options::timeout::Timeout;
 
 // What is told beside a permit. The path and the four ids are in the buffer.
 #[derive(Clone, Copy)]
@@ -22,9 +21,9 @@ pub struct Granted {
     pub gid: usize,
     pub egid: usize,
     pub auth: bool,
-    pub timeout: Timeout,
+    pub timeout: Option<i32>,
     // How many arguments are allowed.
-    pub nargs: Span,
+    pub nargs: Option<Span>,
 }
 
 #[derive(Clone, Copy)]

@@ -5,6 +5,7 @@ ghost use Rattle.answer.specs.Answer.{told_of};
 use super::Answer;
 
 // The answer's number.
+#[tactic(auto, unfolding(crate::specs::Answer::told_of))]
 pub fn number_of(answer: Answer) -> u8
     ensures { (b : List ℕ) → result ≡ (told_of answer b).number }
 {

@@ -1,6 +1,5 @@
 // The answer of a table: its length, its bytes, its control lines, then the decision.
 ghost use Rattle.std.specs.Prelude.{◌≤◌, ◌≡◌, length};
-ghost use Rattle.fault.specs.Fault.{value};
 ghost use Rattle.table_lines.specs.Contract.{decided_in, ended_by};
 ghost use Rattle.answer.specs.Answer.{least_buffer, result as result_with};
 ghost use Rattle.answer.specs.Meaning.{settled};
@@ -10,44 +9,50 @@ use super::Answer;
 use super::grant::grant;
 use entry::path::Path;
 use entry::verdict::Verdict;
-use line::whole::{Acceptance, acceptance_of};
-use question::{LastAuthentication, WeekMinute};
+use line::whole::{Unaccepted, acceptance_of};
+use question::{Age, WeekMinute};
 use table_lines::lines::read_lines;
-use table_lines::{Decision, LinesOutcome, LinesRead};
-use text::number::at_most;
+use table_lines::{Decision, LinesFault};
 
-// The answer where no line has a fault.
+// The answer of a decision.
 fn resolve(decision: Decision, path: &[u8; Path::BYTES], buffer: &mut [u8]) -> Answer
     ensures { least_buffer ≤ length buffer.old
-        → result_with result buffer.new ≡ settled buffer.old (value (decided_in decision path.now)) }
+        → result_with result buffer.new ≡ settled buffer.old (Ok (decided_in (Some decision) path.now)) }
 {
-    if !decision.made {
-        return Answer::NoEntry;
-    }
     let line = decision.line;
     let options = decision.options;
-    let verdict = decision.verdict;
     let all = &path[..];
-    let written = &all[..at_most(decision.path, Path::BYTES)];
-    match verdict {
+    let written = &all[..decision.path.min(Path::BYTES)];
+    match decision.verdict {
         Verdict::Nargs => Answer::StoppedByNargs(line),
         Verdict::Argument => Answer::StoppedByArgument(line),
         Verdict::Path => Answer::StoppedByPath(line),
-        Verdict::Password => Answer::Password(grant(line, written, options, buffer)),
-        Verdict::Permit => Answer::Permit(grant(line, written, options, buffer)),
+        Verdict::Password => {
+            grant(line, written, options, buffer).map_or(
+                Answer::SmallBuffer,
+                |g| Answer::Password(g),
+            )
+        }
+        Verdict::Permit => {
+            grant(line, written, options, buffer).map_or(Answer::SmallBuffer, |g| Answer::Permit(g))
+        }
     }
 }
 
 // The answer of the lines: the first fault, a line that is cut, or the decision.
-fn settle(read: LinesRead, path: &[u8; Path::BYTES], buffer: &mut [u8]) -> Answer
+fn settle(
+    read: Result<Option<Decision>, LinesFault>,
+    path: &[u8; Path::BYTES],
+    buffer: &mut [u8],
+) -> Answer
     ensures { least_buffer ≤ length buffer.old
-        → result_with result buffer.new ≡ settled buffer.old (ended_by (decided_in read.decision path.now) read.outcome) }
+        → result_with result buffer.new ≡ settled buffer.old (ended_by path.now read) }
 {
-    let outcome = read.outcome;
-    match outcome {
-        LinesOutcome::Refused(cause, place) => Answer::RefusedLine(cause, place),
-        LinesOutcome::Cut(place) => Answer::CutShort(place),
-        LinesOutcome::Done => resolve(read.decision, path, buffer),
+    match read {
+        Err(LinesFault::Refused(cause, place)) => Answer::RefusedLine(cause, place),
+        Err(LinesFault::Cut(place)) => Answer::CutShort(place),
+        Ok(None) => Answer::NoEntry,
+        Ok(Some(decision)) => resolve(decision, path, buffer),
     }
 }
 
@@ -59,7 +64,7 @@ pub fn read_table(
     groups: &[u8],
     host: &[u8],
     minute: WeekMinute,
-    last: LastAuthentication,
+    last: Option<Age>,
     args: &[u8],
     buffer: &mut [u8],
 ) -> Answer
@@ -68,9 +73,9 @@ pub fn read_table(
         minute last args.now buffer.old buffer.new result }
 {
     match acceptance_of(table) {
-        Acceptance::Long => Answer::LongTable,
-        Acceptance::RefusedAt(place) => Answer::RefusedByte(place),
-        Acceptance::Accepted => {
+        Err(Unaccepted::Long) => Answer::LongTable,
+        Err(Unaccepted::RefusedAt(place)) => Answer::RefusedByte(place),
+        Ok(()) => {
             let mut path = [0u8; Path::BYTES];
             let read = read_lines(
                 table, command, user, groups, host, minute, last, args, &mut path,

@@ -6,23 +6,21 @@ ghost use Rattle.streams.specs.Contract.{LoadedIn};
 use line::whole::WholeText;
 use std::fs::File;
 use std::rt::{Env, Files};
-use streams::buffers::buffer;
+use streams::buffers::zeros;
 use streams::identity::{Identity, identify};
-use streams::input::{Input, Loaded, load_name, read_all};
+use streams::input::{Input, load_name, read_all};
 use streams::message;
 use streams::name::open_read;
 use streams::standard::Streams;
-use text::slice::equal;
 
 // One byte more than the file may have, which is enough to see that it is too long.
-pub fn file_buffer() -> [u8; WholeText::BYTES + 1]
-    ensures { table_limit + 1 ≡ length result }
-{
-    [0; WholeText::BYTES + 1]
-}
+pub const FILE: usize = WholeText::BYTES + 1;
+
+// The longest name of a file.
+pub const NAME: usize = 4096;
 
 // The bytes of an open file, as many as there is room for; a failure is told.
-pub fn load_from(input: Input<'_>, out: &mut [u8]) -> Loaded
+pub fn load_from(input: Input<'_>, out: &mut [u8]) -> Option<usize>
     ensures { LoadedIn out.new result }
 {
     read_all(input, out)
@@ -31,7 +29,7 @@ pub fn load_from(input: Input<'_>, out: &mut [u8]) -> Loaded
 // What was read of a file, and which file it is.
 #[derive(Clone, Copy)]
 pub struct FileRead {
-    pub loaded: Loaded,
+    pub loaded: Option<usize>,
     pub identity: Identity,
 }
 
@@ -53,7 +51,7 @@ fn load_known<R: Files<File = File>>(
         Err(why) => {
             message::failed(streams.errors, name, why);
             FileRead {
-                loaded: Loaded::Failed,
+                loaded: None,
                 identity: Identity::unknown(),
             }
         }
@@ -66,7 +64,7 @@ pub fn load_file<R: Files<File = File>>(
     streams: Streams,
     name: &[u8],
     out: &mut [u8],
-) -> Loaded
+) -> Option<usize>
     ensures { LoadedIn out.new result }
 {
     let read = load_known(rt, streams, name, out);
@@ -79,10 +77,10 @@ pub fn load_named<R: Files<File = File>>(
     streams: Streams,
     name: &[u8],
     out: &mut [u8],
-) -> Loaded
+) -> Option<usize>
     ensures { LoadedIn out.new result }
 {
-    if equal(name, b"-") {
+    if name == b"-".as_slice() {
         return load_from(Input::standard(streams), out);
     }
     load_file(rt, streams, name, out)
@@ -98,10 +96,10 @@ pub fn load_argument<R: Env + Files<File = File>>(
 ) -> FileRead
     ensures { LoadedIn out.new result.loaded }
 {
-    let mut name = buffer();
-    let Loaded::Bytes(n) = load_name(rt, streams.errors, i, what, &mut name) else {
+    let mut name = zeros::<NAME>();
+    let Some(n) = load_name(rt, streams.errors, i, what, &mut name) else {
         return FileRead {
-            loaded: Loaded::Failed,
+            loaded: None,
             identity: Identity::unknown(),
         };
     };
@@ -115,7 +113,7 @@ pub fn load<R: Env + Files<File = File>>(
     i: usize,
     what: &[u8],
     out: &mut [u8],
-) -> Loaded
+) -> Option<usize>
     ensures { LoadedIn out.new result }
 {
     let read = load_argument(rt, streams, i, what, out);

@@ -6,13 +6,13 @@ ghost use Rattle.suauth.specs.Contract.{asking};
 ghost use Rattle.su_console.specs.Explained.{su_explained};
 ghost use Rattle.checker.specs.Contract.{Reports};
 
-use super::file::{file_buffer, load_named};
-use super::report::{print_filled, report_buffer};
+use super::file::{FILE, NAME, load_named};
+use super::report::{REPORT, print_filled};
 use std::fs::File;
 use std::io::Stderr;
 use std::rt::{Env, Files};
-use streams::buffers::buffer;
-use streams::input::{Loaded, load_name};
+use streams::buffers::zeros;
+use streams::input::load_name;
 use streams::standard::Streams;
 use streams::standard_output::Output;
 use su_console::report::explain_su;
@@ -22,7 +22,7 @@ use suauth::su_answer;
 fn print_report(errors: Stderr, output: Output, name: &[u8], file: &[u8]) -> Output
     ensures { Reports (su_explained name.now file.now (answer_of file.now (asking (bytes "root") (bytes "root") []))) output result }
 {
-    let mut out = report_buffer();
+    let mut out = zeros::<REPORT>();
     let answer = su_answer(file, b"root", b"root", b"");
     let filled = explain_su(name, file, answer, &mut out);
     print_filled(errors, output, filled, &out)
@@ -30,8 +30,8 @@ fn print_report(errors: Stderr, output: Output, name: &[u8], file: &[u8]) -> Out
 
 // Checks the file of this name.
 fn check_named<R: Files<File = File>>(rt: &R, streams: Streams, name: &[u8]) {
-    let mut file = file_buffer();
-    let Loaded::Bytes(n) = load_named(rt, streams, name, &mut file) else {
+    let mut file = zeros::<FILE>();
+    let Some(n) = load_named(rt, streams, name, &mut file) else {
         return;
     };
     print_report(streams.errors, Output::new(streams), name, &file[..n]);
@@ -39,9 +39,8 @@ fn check_named<R: Files<File = File>>(rt: &R, streams: Streams, name: &[u8]) {
 
 // Checks the su file that an argument names.
 pub fn check<R: Env + Files<File = File>>(rt: &R, streams: Streams, i: usize) {
-    let mut name = buffer();
-    let Loaded::Bytes(n) = load_name(rt, streams.errors, i, b"the name of the su file", &mut name)
-    else {
+    let mut name = zeros::<NAME>();
+    let Some(n) = load_name(rt, streams.errors, i, b"the name of the su file", &mut name) else {
         return;
     };
     check_named(rt, streams, &name[..n]);

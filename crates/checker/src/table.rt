@@ -4,8 +4,8 @@ ghost use Rattle.console.specs.QuestionLine.{line_limit};
 ghost use Rattle.explain.specs.Explained.{explained};
 ghost use Rattle.checker.specs.Contract.{Reports};
 
-use super::file::{file_buffer, load_named};
-use super::report::{print_filled, report_buffer};
+use super::file::{FILE, NAME, load_named};
+use super::report::{REPORT, print_filled};
 use answer::Answer;
 use console::question_line::QuestionLine;
 use console::respond::answer_line;
@@ -14,18 +14,14 @@ use std::fs::File;
 use std::io::Stderr;
 use std::rt::{Env, Files};
 use streams::argument::argument;
-use streams::buffers::buffer;
-use streams::input::{Loaded, load_name};
+use streams::buffers::zeros;
+use streams::input::load_name;
 use streams::message;
 use streams::standard::Streams;
 use streams::standard_output::Output;
 
 // One byte more than a question line may have.
-fn question_buffer() -> [u8; QuestionLine::BYTES + 1]
-    ensures { line_limit + 1 ≡ length result }
-{
-    [0; QuestionLine::BYTES + 1]
-}
+const QUESTION: usize = QuestionLine::BYTES + 1;
 
 // Hands on what was found in a table that was asked this question.
 fn print_report(
@@ -38,7 +34,7 @@ fn print_report(
 ) -> Output
     ensures { Reports (explained name.now question.now table.now answer) output result }
 {
-    let mut out = report_buffer();
+    let mut out = zeros::<REPORT>();
     let filled = explain(name, question, table, answer, &mut out);
     print_filled(errors, output, filled, &out)
 }
@@ -70,8 +66,8 @@ fn ask(streams: Streams, name: &[u8], table: &[u8], line: &[u8]) {
 
 // Asks the table of this name the question.
 fn ask_named<R: Files<File = File>>(rt: &R, streams: Streams, name: &[u8], line: &[u8]) {
-    let mut table = file_buffer();
-    let Loaded::Bytes(n) = load_named(rt, streams, name, &mut table) else {
+    let mut table = zeros::<FILE>();
+    let Some(n) = load_named(rt, streams, name, &mut table) else {
         return;
     };
     ask(streams, name, &table[..n], line);
@@ -79,9 +75,8 @@ fn ask_named<R: Files<File = File>>(rt: &R, streams: Streams, name: &[u8], line:
 
 // Asks the table that an argument names the question.
 fn ask_at<R: Env + Files<File = File>>(rt: &R, streams: Streams, i: usize, line: &[u8]) {
-    let mut name = buffer();
-    let Loaded::Bytes(n) = load_name(rt, streams.errors, i, b"the name of the table", &mut name)
-    else {
+    let mut name = zeros::<NAME>();
+    let Some(n) = load_name(rt, streams.errors, i, b"the name of the table", &mut name) else {
         return;
     };
     ask_named(rt, streams, &name[..n], line);
@@ -94,7 +89,7 @@ pub fn check<R: Env + Files<File = File>>(rt: &R, streams: Streams, i: usize) {
 
 // The same, with the question in the argument behind it.
 pub fn check_with<R: Env + Files<File = File>>(rt: &R, streams: Streams, i: usize) {
-    let mut line = question_buffer();
+    let mut line = zeros::<QUESTION>();
     if i < usize::MAX {
         let n = argument(rt, i + 1, &mut line);
         ask_at(rt, streams, i, &line[..n]);

@@ -1,4 +1,1 @@
-mod WordLaws
-mod OptionLaws
-mod OperandLaws
-mod RequestLaws
+mod WordLists

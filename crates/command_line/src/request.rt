@@ -1,13 +1,28 @@
 // What is asked for, or what is wrong with how it is asked.
+ghost use Rattle.std.specs.Prelude.{◌≡◌, None};
+ghost use Rattle.command_line.specs.Operands.{arguments};
 
-// The numbers of the arguments that name files or are a question; 0 for none.
+// The numbers of the arguments that name files or are a question.
 #[derive(Clone, Copy)]
 pub struct Arguments {
     // The table, su file or log that is read.
     pub file: usize,
     // The log that is written.
-    pub log: usize,
-    pub question: usize,
+    pub log: Option<usize>,
+    pub question: Option<usize>,
+}
+
+impl Arguments {
+    // A file alone.
+    pub fn of_file(file: usize) -> Arguments
+        ensures { result ≡ arguments file None None }
+    {
+        Arguments {
+            file,
+            log: None,
+            question: None,
+        }
+    }
 }
 
 #[derive(Clone, Copy)]
@@ -26,7 +41,6 @@ pub enum Request {
     CheckSu(Arguments),
     Help,
     Version,
-    Wrong(Misuse),
 }
 
 // A wrong use, with the numbers of the arguments that are wrong.
@@ -46,13 +60,6 @@ pub enum Misuse {
     // An option behind a name.
     OptionBehind(usize),
     Surplus(usize),
-}
-
-// What was found in looking for a wrong use.
-#[derive(Clone, Copy)]
-pub enum Checked {
-    Good,
-    Bad(Misuse),
 }
 
 // What is to be done, as the options say it.

@@ -1,124 +1,133 @@
-// What an argument is where an option may stand: a number for each word, so that the words are the bytes of a slice.
-ghost use Rattle.std.specs.Prelude.{◌<◌, ◌≡◌, get_or, length};
-ghost use Rattle.text.specs.Slice.{same};
-ghost use Rattle.command_line.specs.Word.{word_of};
-ghost use Rattle.command_line.specs.Contract.{text_of, word_at};
+// What an argument is where an option may stand.
+ghost use Rattle.std.specs.Prelude.{◌≡◌, map};
+ghost use Rattle.command_line.specs.Word.{is_option, is_known, named, word_of};
+ghost use Rattle.command_line.specs.Contract.{written};
 
 use std::env::FillError;
 use std::rt::Env;
 use text::slice::head_is;
 
-// It does not begin with `-`.
-pub const OPERAND: u8 = 0;
-// `-`
-pub const DASH: u8 = 1;
-// `--`
-pub const END_OF_OPTIONS: u8 = 2;
-// It begins with `-` and is none that is known; the known options have larger numbers.
-pub const OTHER_OPTION: u8 = 3;
-
-pub const CHECK: u8 = 4;
-
-pub const SU: u8 = 5;
-
-pub const LOG: u8 = 6;
-
-pub const READ_LOG: u8 = 7;
-
-pub const FIGURES: u8 = 8;
-
-pub const HELP: u8 = 9;
-
-pub const VERSION: u8 = 10;
-
-// What is known of what begins with `-`: so many rows, each a text of up to 16 bytes, its length, and its word.
-const ROWS: usize = 10;
-
-const TEXTS: [u8; 160] = *b"-\0\0\0\0\0\0\0\0\0\0\0\0\0\0\0\
-    --\0\0\0\0\0\0\0\0\0\0\0\0\0\0\
-    --check\0\0\0\0\0\0\0\0\0\
-    --su\0\0\0\0\0\0\0\0\0\0\0\0\
-    --log\0\0\0\0\0\0\0\0\0\0\0\
-    --read-log\0\0\0\0\0\0\
-    --figures\0\0\0\0\0\0\0\
-    --help\0\0\0\0\0\0\0\0\0\0\
-    -h\0\0\0\0\0\0\0\0\0\0\0\0\0\0\
-    --version\0\0\0\0\0\0\0";
-
-const LENGTHS: [usize; 10] = [1, 2, 7, 4, 5, 10, 9, 6, 2, 9];
-
-const WORDS: [u8; 10] = [1, 2, 4, 5, 6, 7, 8, 9, 9, 10];
-
-// The i-th byte of the text of a row.
-fn text_byte(row: usize, i: usize) -> u8
-    requires { (row < 10) × (i < length (text_of row)) }
-    ensures { result ≡ get_or (text_of row) i 0 }
-{
-    TEXTS[row * 16 + i]
+#[derive(Clone, Copy, PartialEq, Eq)]
+pub enum Word {
+    // It does not begin with `-`.
+    Operand,
+    // `-`
+    Dash,
+    // `--`
+    EndOfOptions,
+    // It begins with `-` and is none that is known.
+    OtherOption,
+    Check,
+    Su,
+    Log,
+    ReadLog,
+    Figures,
+    Help,
+    Version,
 }
 
-// The bytes of the text of a row.
-fn text_length(row: usize) -> usize
-    requires { row < 10 }
-    ensures { result ≡ length (text_of row) }
-{
-    LENGTHS[row]
-}
-
-// The word of a row.
-fn row_word(row: usize) -> u8
-    requires { row < 10 }
-    ensures { result ≡ word_at row }
-{
-    WORDS[row]
-}
-
-// Whether this is the text of a row.
-fn is_text(text: &[u8], row: usize) -> bool
-    requires { row < 10 }
-    ensures { result ≡ same text.now (text_of row) }
-{
-    if text.len() != text_length(row) {
-        return false;
+impl Word {
+    // Whether it is an option, known or not.
+    pub fn is_option(self) -> bool
+        ensures { result ≡ is_option self }
+    {
+        !matches!(self, Word::Operand | Word::Dash | Word::EndOfOptions)
     }
-    let mut i = 0;
-    while i < text.len() {
-        if text[i] != text_byte(row, i) {
-            return false;
+
+    // Whether it is an option that is known.
+    pub fn is_known(self) -> bool
+        ensures { result ≡ is_known self }
+    {
+        self.is_option() && self != Word::OtherOption
+    }
+}
+
+// An option as it is written, and its word.
+#[derive(Clone, Copy)]
+struct Known {
+    text: &'static [u8],
+    word: Word,
+}
+
+// What is known of what begins with `-`.
+const KNOWN: [Known; 10] = [
+    Known {
+        text: b"-",
+        word: Word::Dash,
+    },
+    Known {
+        text: b"--",
+        word: Word::EndOfOptions,
+    },
+    Known {
+        text: b"--check",
+        word: Word::Check,
+    },
+    Known {
+        text: b"--su",
+        word: Word::Su,
+    },
+    Known {
+        text: b"--log",
+        word: Word::Log,
+    },
+    Known {
+        text: b"--read-log",
+        word: Word::ReadLog,
+    },
+    Known {
+        text: b"--figures",
+        word: Word::Figures,
+    },
+    Known {
+        text: b"--help",
+        word: Word::Help,
+    },
+    Known {
+        text: b"-h",
+        word: Word::Help,
+    },
+    Known {
+        text: b"--version",
+        word: Word::Version,
+    },
+];
+
+// The word of an option that is written so.
+#[tactic(auto, using(crate::proofs::WordLists::next_option, crate::proofs::WordLists::none_left), unfolding(crate::specs::Word::named))]
+fn named(text: &[u8], options: &[Known]) -> Word
+    ensures { result ≡ named text.now (map written options.now) }
+{
+    for known in options {
+        if text == known.text {
+            return known.word;
         }
-        i += 1;
     }
-    true
+    Word::OtherOption
 }
 
 // The word of an option, or of an operand, which does not begin with `-`.
-pub fn word_of(text: &[u8]) -> u8
+#[tactic(auto, unfolding(crate::specs::Word::word_of, crate::specs::Word::named, crate::specs::Word::options))]
+pub fn word_of(text: &[u8]) -> Word
     ensures { result ≡ word_of text.now }
 {
     if !head_is(text, b'-') {
-        return OPERAND;
+        return Word::Operand;
     }
-    let mut row: usize = 0;
-    while row < ROWS {
-        if is_text(text, row) {
-            return row_word(row);
-        }
-        row += 1;
-    }
-    OTHER_OPTION
+    named(text, &KNOWN)
 }
 
 // The word of an argument that is longer than all options, by its first byte.
-fn long_word(first: u8) -> u8 {
+fn long_word(first: u8) -> Word {
     if first == b'-' {
-        return OTHER_OPTION;
+        return Word::OtherOption;
     }
-    OPERAND
+    Word::Operand
 }
 
 // The word of an argument, none of one that is not there. Of one that is longer than all options only the first byte is
 // looked at.
-pub fn word_at<R: Env>(rt: &R, i: usize) -> Option<u8> {
+pub fn word_at<R: Env>(rt: &R, i: usize) -> Option<Word> {
     let mut text = [0u8; 17];
     match rt.arg(i, &mut text) {
         Ok(n) => Some(word_of(&text[..n])),

@@ -1,6 +1,6 @@
 -- The rightmost rule, for users, groups and times alike (01, "Entries").
-use Rattle.std.specs.Prelude.{Bool, not, cond, List, [], ◌∷◌}
-use Rattle.std.proofs.Math.Option.{Option, none, some, or_else}
+use Rattle.std.specs.Option.{option_or}
+use Rattle.std.specs.Prelude.{Bool, not, cond, List, [], ◌∷◌, None, Option, Some}
 
 -- one alternative of a condition: whether a `!` stands in front of the condition, and whether the alternative applies
 pub record Judged : Type 0 where
@@ -13,10 +13,9 @@ judged n a = record { negated = n; applies = a }
 
 -- what one alternative says: where it applies it accepts, unless it is negated
 abbrev pub said_by : Judged → Option Bool
-said_by x = cond x.applies (some (not x.negated)) none
+said_by x = cond x.applies (Some (not x.negated)) None
 
 -- "The rightmost alternative that applies decides"; none where none applies
 unfoldable pub rightmost : List Judged → Option Bool
-unfolding or_else
-rightmost [] = none
-rightmost (x ∷ xs) = or_else (rightmost xs) (said_by x)
+rightmost [] = None
+rightmost (x ∷ xs) = option_or (rightmost xs) (said_by x)

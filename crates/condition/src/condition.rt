@@ -1,56 +1,31 @@
 // One condition from a field's text: its alternatives are taken one by one into what is kept of the rightmost rule.
-ghost use Rattle.std.specs.Prelude.{◌≤◌, ◌≡◌, not, ◌||◌, [], ◌∷◌, length};
-ghost use Rattle.text.specs.Bytes.{byte};
-ghost use Rattle.text.specs.Lists.{has};
+ghost use Rattle.std.specs.Prelude.{◌≤◌, ◌≡◌, [], ◌∷◌, length};
 ghost use Rattle.pattern.specs.Whole.{expansions_of};
 ghost use Rattle.condition.specs.Condition.{kind_for, cause_for, alternatives_of, condition_behind};
-ghost use Rattle.condition.specs.Contract.{sort_in, judge_by, added_by, added_with, expansions_from, GoodPattern, FoundAt, HasBraces, kept_for, read_added, condition_read, condition_told};
+ghost use Rattle.condition.specs.Contract.{sort_in, judge_by, added_by, added_with, expansions_from, GoodPattern, FoundAt, HasBraces, kept_for, read_for, condition_read, condition_told};
 
-use super::judge::{Judgement, judge};
-use super::prefix::{Asks, prefix_of};
+use super::judge::judge;
+use super::prefix::{Asks, Prefix, prefix_of};
 use super::rightmost::Rightmost;
 use fault::Cause;
 use matching::field::{Expanded, read_pattern_field};
 use pattern::alternatives::{Alternative, alternative_at, put_alternative};
 use pattern::{Pattern, Syntax};
 use question::WeekMinute;
-use text::buffer::Filled;
-use text::slice::{Found, find_byte, past_head};
+use text::slice::past_head;
 
-// What a field's text comes to: a fault, or what is kept of its sort with its alternatives.
-#[derive(Drop)]
+// What is kept of a condition's sort with its alternatives.
+#[derive(Clone, Copy, PartialEq, Eq)]
 pub enum ConditionRead {
-    Fault(Cause),
     Users(Rightmost),
     Times(Rightmost),
-}
-
-// What is kept with some alternatives more, or the fault of the first that has one.
-#[derive(Drop)]
-enum Added {
-    Fault(Cause),
-    Kept(Rightmost),
-}
-
-// Whether a text without a prefix has no `=`.
-fn can_be_condition(written: bool, text: &[u8]) -> bool
-    ensures { result ≡ written || not (has (byte "=") text.now) }
-{
-    if written {
-        return true;
-    }
-    match find_byte(text, b'=') {
-        Found::At(_) => false,
-        Found::Nothing => true,
-    }
 }
 
 fn kind_for(asks: Asks) -> Syntax
     ensures { result ≡ kind_for (sort_in asks) }
 {
     match asks {
-        Asks::User => Syntax::Condition,
-        Asks::Group => Syntax::Condition,
+        Asks::User | Asks::Group => Syntax::Condition,
         Asks::Time => Syntax::Time,
     }
 }
@@ -59,13 +34,13 @@ fn cause_for(asks: Asks) -> Cause
     ensures { result ≡ cause_for (sort_in asks) }
 {
     match asks {
-        Asks::User => Cause::Alternative,
-        Asks::Group => Cause::Alternative,
+        Asks::User | Asks::Group => Cause::Alternative,
         Asks::Time => Cause::TimeItem,
     }
 }
 
 // One alternative more.
+#[tactic(auto, using(crate::proofs::AddedLaws::one_missing, crate::proofs::AddedLaws::one_found))]
 fn add_one(
     minute: WeekMinute,
     asks: Asks,
@@ -76,14 +51,11 @@ fn add_one(
     groups: &[u8],
     host: &[u8],
     kept: Rightmost,
-) -> Added
+) -> Result<Rightmost, Cause>
     ensures { result ≡ added_with judging user.now groups.now host.now minute negated asks kept (e.now ∷ []) }
 {
-    match judge(asks, judging, minute, e, user, groups, host) {
-        Judgement::Malformed => Added::Fault(cause_for(asks)),
-        Judgement::Applies => Added::Kept(kept.add(negated, true)),
-        Judgement::Misses => Added::Kept(kept.add(negated, false)),
-    }
+    let applies = judge(asks, judging, minute, e, user, groups, host).ok_or(cause_for(asks))?;
+    Ok(kept.add(negated, applies))
 }
 
 // All expansions of the alternative at `at`, which has so many.
@@ -100,42 +72,27 @@ fn add_braced(
     groups: &[u8],
     host: &[u8],
     kept: Rightmost,
-) -> Added
+) -> Result<Rightmost, Cause>
     requires { HasBraces syntax p.now at number }
     ensures { result ≡ added_with judging user.now groups.now host.now minute negated asks kept (expansions_from syntax p.now at) }
 {
     let mut out = [0u8; Pattern::BYTES];
     let mut r = kept;
-    let mut k = 0;
-    while k < number {
-        match put_alternative(syntax, p, at, number, k, &mut out) {
-            Filled::Done(n) => {
-                match add_one(
-                    minute,
-                    asks,
-                    negated,
-                    judging,
-                    &out[..n],
-                    user,
-                    groups,
-                    host,
-                    r,
-                ) {
-                    Added::Kept(next) => {
-                        r = next;
-                        k += 1;
-                    }
-                    Added::Fault(cause) => {
-                        return Added::Fault(cause);
-                    }
-                }
-            }
-            Filled::Full => {
-                return Added::Fault(Cause::FieldLength);
-            }
-        }
+    for k in 0..number {
+        let n = put_alternative(syntax, p, at, number, k, &mut out).ok_or(Cause::FieldLength)?;
+        r = add_one(
+            minute,
+            asks,
+            negated,
+            judging,
+            &out[..n],
+            user,
+            groups,
+            host,
+            r,
+        )?;
     }
-    Added::Kept(r)
+    Ok(r)
 }
 
 // All expansions of the alternative found at `at`; where it is flat, no buffer is needed.
@@ -152,7 +109,7 @@ fn add_found(
     groups: &[u8],
     host: &[u8],
     kept: Rightmost,
-) -> Added
+) -> Result<Rightmost, Cause>
     requires { FoundAt syntax p.now at found }
     ensures { result ≡ added_with judging user.now groups.now host.now minute negated asks kept (expansions_from syntax p.now at) }
 {
@@ -171,7 +128,6 @@ fn add_found(
         Alternative::Braced(_, number) => add_braced(
             syntax, minute, asks, negated, judging, p, at, number, user, groups, host, kept,
         ),
-        Alternative::Malformed => Added::Fault(Cause::Pattern),
     }
 }
 
@@ -187,29 +143,23 @@ fn add_all(
     groups: &[u8],
     host: &[u8],
     kept: Rightmost,
-) -> Added
+) -> Result<Rightmost, Cause>
     requires { GoodPattern syntax p.now }
     ensures { result ≡ added_with judging user.now groups.now host.now minute negated asks kept (expansions_of syntax p.now) }
 {
     let mut r = kept;
     let mut i = 0;
+    // Stays a loop: the step differs from turn to turn.
     loop {
-        let found = alternative_at(syntax, p, i);
-        match add_found(
+        let found = alternative_at(syntax, p, i).ok_or(Cause::Pattern)?;
+        r = add_found(
             syntax, minute, asks, negated, judging, p, i, found, user, groups, host, r,
-        ) {
-            Added::Fault(cause) => {
-                return Added::Fault(cause);
-            }
-            Added::Kept(next) => {
-                let end = found.end();
-                if p.len() <= end {
-                    return Added::Kept(next);
-                }
-                r = next;
-                i = end + 1;
-            }
+        )?;
+        let end = found.end();
+        if p.len() <= end {
+            return Ok(r);
         }
+        i = end + 1;
     }
 }
 
@@ -224,13 +174,12 @@ fn add_alternatives(
     groups: &[u8],
     host: &[u8],
     kept: Rightmost,
-) -> Added
+) -> Result<Rightmost, Cause>
     requires { length p.now ≤ 1024 }
     ensures { result ≡ added_by kept (alternatives_of (judge_by judging user.now groups.now host.now minute.0) negated (sort_in asks) p.now) }
 {
     let syntax = kind_for(asks);
-    match read_pattern_field(syntax, p) {
-        Expanded::Fault(cause) => Added::Fault(cause),
+    match read_pattern_field(syntax, p)? {
         Expanded::Flat => add_one(minute, asks, negated, judging, p, user, groups, host, kept),
         Expanded::Number(_) => add_all(
             syntax, minute, asks, negated, judging, p, user, groups, host, kept,
@@ -242,22 +191,17 @@ fn kept_for(asks: Asks, users: Rightmost, times: Rightmost) -> Rightmost
     ensures { result ≡ kept_for (sort_in asks) users times }
 {
     match asks {
-        Asks::User => users,
-        Asks::Group => users,
+        Asks::User | Asks::Group => users,
         Asks::Time => times,
     }
 }
 
-fn told(asks: Asks, added: Added) -> ConditionRead
-    ensures { result ≡ read_added (sort_in asks) added }
+fn read_for(asks: Asks, kept: Rightmost) -> ConditionRead
+    ensures { result ≡ read_for (sort_in asks) kept }
 {
-    match added {
-        Added::Fault(cause) => ConditionRead::Fault(cause),
-        Added::Kept(kept) => match asks {
-            Asks::User => ConditionRead::Users(kept),
-            Asks::Group => ConditionRead::Users(kept),
-            Asks::Time => ConditionRead::Times(kept),
-        },
+    match asks {
+        Asks::User | Asks::Group => ConditionRead::Users(kept),
+        Asks::Time => ConditionRead::Times(kept),
     }
 }
 
@@ -272,30 +216,26 @@ fn read_behind(
     user: &[u8],
     groups: &[u8],
     host: &[u8],
-) -> ConditionRead
+) -> Result<ConditionRead, Cause>
     requires { length text.now ≤ 1024 }
     ensures { result ≡ condition_read users times (condition_behind (judge_by judging user.now groups.now host.now minute.0) negated text.now) }
 {
-    let prefix = prefix_of(text);
-    if !can_be_condition(prefix.written, text) {
-        return ConditionRead::Fault(Cause::OptionName);
+    let Prefix { asks, written, at } = prefix_of(text);
+    if !written && text.contains(&b'=') {
+        return Err(Cause::OptionName);
     }
-    let asks = prefix.asks;
-    let at = prefix.at;
-    told(
+    let kept = add_alternatives(
+        minute,
         asks,
-        add_alternatives(
-            minute,
-            asks,
-            negated,
-            judging,
-            &text[at..],
-            user,
-            groups,
-            host,
-            kept_for(asks, users, times),
-        ),
-    )
+        negated,
+        judging,
+        &text[at..],
+        user,
+        groups,
+        host,
+        kept_for(asks, users, times),
+    )?;
+    Ok(read_for(asks, kept))
 }
 
 // One condition, judged or only looked at.
@@ -308,11 +248,11 @@ pub fn read_condition(
     minute: WeekMinute,
     users: Rightmost,
     times: Rightmost,
-) -> ConditionRead
+) -> Result<ConditionRead, Cause>
     ensures { result ≡ condition_told judging user.now groups.now host.now minute users times text.now }
 {
     if text.len() > Pattern::BYTES {
-        return ConditionRead::Fault(Cause::FieldLength);
+        return Err(Cause::FieldLength);
     }
     let from = past_head(text, b'!');
     read_behind(

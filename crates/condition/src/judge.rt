@@ -1,63 +1,32 @@
 // One alternative of a condition: whether it has a good form, and whether it applies.
+ghost use Rattle.std.specs.Option.{option_map};
+ghost use Rattle.std.specs.List.{list_any};
 ghost use Rattle.std.specs.Prelude.{◌≡◌, ◌&&◌};
-ghost use Rattle.std.proofs.Math.Option.{map};
-ghost use Rattle.text.specs.Lists.{any};
 ghost use Rattle.question.specs.Contract.{strings_in};
 ghost use Rattle.glob.specs.Match.{matches};
 ghost use Rattle.matching.specs.Alternative.{alternative_of};
 ghost use Rattle.times.specs.Item.{item_of, item_matches};
-ghost use Rattle.condition.specs.Contract.{sort_in, judgement_in, judgement_of, judge_by, name_applies, applies_by, asks_time};
+ghost use Rattle.condition.specs.Contract.{sort_in, judge_by, name_applies, applies_by};
 
 use super::prefix::Asks;
 use matching::alternative::{Parted, part};
 use matching::matcher::matches_one;
 use question::WeekMinute;
-use question::strings::string_end;
-use times::item::{ItemAnswer, item_answer};
-
-// What is found of an alternative.
-#[derive(Drop)]
-pub enum Judgement {
-    Malformed,
-    Applies,
-    Misses,
-}
-
-fn of_test(applies: bool) -> Judgement
-    ensures { result ≡ judgement_in applies }
-{
-    if applies {
-        Judgement::Applies
-    } else {
-        Judgement::Misses
-    }
-}
+use question::strings::Strings;
+use times::item::item_answer;
 
 // Whether some group, of zero-ended strings, matches a brace-free pattern.
 fn some_group_matches(pattern: &[u8], groups: &[u8]) -> bool
-    ensures { result ≡ any (matches pattern.now) (strings_in groups.now) }
+    ensures { result ≡ list_any (matches pattern.now) (strings_in groups.now) }
 {
-    let mut from = 0;
-    while from < groups.len() {
-        let end = string_end(groups, from);
-        if end == groups.len() {
-            return false;
-        }
-        if matches_one(pattern, &groups[from..end]) {
-            return true;
-        }
-        from = end + 1;
-    }
-    false
+    Strings(groups).any(|group| matches_one(pattern, group))
 }
 
-// Whether the user, or some group, matches; where nothing is judged none does.
-fn name_matches(asks: Asks, judging: bool, pattern: &[u8], user: &[u8], groups: &[u8]) -> bool
-    ensures { result ≡ name_applies judging (sort_in asks) user.now (strings_in groups.now) pattern.now }
+// Whether the user, or some group, matches.
+#[tactic(auto, unfolding(crate::specs::Contract::name_applies))]
+fn name_matches(asks: Asks, pattern: &[u8], user: &[u8], groups: &[u8]) -> bool
+    ensures { result ≡ name_applies (sort_in asks) user.now (strings_in groups.now) pattern.now }
 {
-    if !judging {
-        return false;
-    }
     match asks {
         Asks::User => matches_one(pattern, user),
         Asks::Group => some_group_matches(pattern, groups),
@@ -66,6 +35,7 @@ fn name_matches(asks: Asks, judging: bool, pattern: &[u8], user: &[u8], groups: 
 }
 
 // A user or group alternative: the name, and the host where there is one.
+#[tactic(auto, using(text::proofs::Laws::part_rest, text::proofs::Laws::both_yes), unfolding(crate::specs::Contract::applies_by))]
 fn judge_name(
     asks: Asks,
     judging: bool,
@@ -73,43 +43,30 @@ fn judge_name(
     user: &[u8],
     groups: &[u8],
     host: &[u8],
-) -> Judgement
-    ensures { result ≡ judgement_of (map (applies_by judging (sort_in asks) user.now (strings_in groups.now) host.now) (alternative_of e.now)) }
+) -> Option<bool>
+    ensures { result ≡ option_map (λ a. judging && applies_by (sort_in asks) user.now (strings_in groups.now) host.now a) (alternative_of e.now) }
 {
-    match part(e) {
-        Parted::Malformed => Judgement::Malformed,
-        Parted::Name => of_test(name_matches(asks, judging, e, user, groups)),
-        Parted::NameAtHost(at) => {
-            if !name_matches(asks, judging, &e[..at], user, groups) {
-                return Judgement::Misses;
-            }
-            of_test(matches_one(&e[at + 1..], host))
-        }
+    match part(e)? {
+        Parted::Name => Some(judging && name_matches(asks, e, user, groups)),
+        Parted::NameAtHost(at) => Some(
+            judging
+                && name_matches(asks, &e[..at], user, groups)
+                && matches_one(&e[at + 1..], host),
+        ),
     }
 }
 
 // A time item.
-fn judge_time(judging: bool, e: &[u8], minute: WeekMinute) -> Judgement
-    ensures { result ≡ judgement_of (map (λ i. judging && item_matches i minute.0) (item_of e.now)) }
+#[tactic(auto, unfolding(times::specs::Contract::item_answer))]
+fn judge_time(judging: bool, e: &[u8], minute: WeekMinute) -> Option<bool>
+    ensures { result ≡ option_map (λ b. judging && b) (option_map (λ i. item_matches i minute.0) (item_of e.now)) }
 {
-    match item_answer(e, minute) {
-        ItemAnswer::Malformed => Judgement::Malformed,
-        ItemAnswer::Misses => Judgement::Misses,
-        ItemAnswer::Matches => of_test(judging),
-    }
-}
-
-fn is_time(asks: Asks) -> bool
-    ensures { result ≡ asks_time asks }
-{
-    match asks {
-        Asks::User => false,
-        Asks::Group => false,
-        Asks::Time => true,
-    }
+    let matches = item_answer(e, minute)?;
+    Some(judging && matches)
 }
 
 // One brace-free expansion; where nothing is judged only its form is looked at, and it does not apply.
+#[tactic(auto, unfolding(crate::specs::Contract::judge_by, crate::specs::Condition::judge_of))]
 pub fn judge(
     asks: Asks,
     judging: bool,
@@ -118,11 +75,11 @@ pub fn judge(
     user: &[u8],
     groups: &[u8],
     host: &[u8],
-) -> Judgement
-    ensures { result ≡ judgement_of (judge_by judging user.now groups.now host.now minute.0 (sort_in asks) e.now) }
+) -> Option<bool>
+    ensures { result ≡ judge_by judging user.now groups.now host.now minute.0 (sort_in asks) e.now }
 {
-    if is_time(asks) {
-        return judge_time(judging, e, minute);
+    match asks {
+        Asks::User | Asks::Group => judge_name(asks, judging, e, user, groups, host),
+        Asks::Time => judge_time(judging, e, minute),
     }
-    judge_name(asks, judging, e, user, groups, host)
 }

@@ -3,9 +3,7 @@ ghost use Rattle.std.specs.Prelude.{◌≡◌, ◌≤◌, length};
 ghost use Rattle.condition.specs.Condition.{prefixed};
 ghost use Rattle.condition.specs.Contract.{prefixed_in};
 
-use text::slice::starts_with;
-
-#[derive(Clone, Copy)]
+#[derive(Clone, Copy, PartialEq, Eq)]
 pub enum Asks {
     User,
     Group,
@@ -21,24 +19,25 @@ pub struct Prefix {
 }
 
 // The prefix of a condition behind its `!`.
+#[tactic(auto, unfolding(crate::specs::Condition::prefixed))]
 pub fn prefix_of(text: &[u8]) -> Prefix
     ensures { (prefixed_in text.now result ≡ prefixed text.now) × (result.at ≤ length text.now) }
 {
-    if starts_with(text, b"user~") {
+    if text.starts_with(b"user~") {
         return Prefix {
             asks: Asks::User,
             written: true,
             at: 5,
         };
     }
-    if starts_with(text, b"group~") {
+    if text.starts_with(b"group~") {
         return Prefix {
             asks: Asks::Group,
             written: true,
             at: 6,
         };
     }
-    if starts_with(text, b"time~") {
+    if text.starts_with(b"time~") {
         return Prefix {
             asks: Asks::Time,
             written: true,

@@ -1,24 +1,18 @@
 // The rightmost rule, alternative by alternative: the same for users, groups and times.
-ghost use Rattle.std.specs.Prelude.{◌≡◌, ◌&&◌};
+ghost use Rattle.std.specs.Option.{unwrap_or};
+ghost use Rattle.std.specs.Prelude.{◌≡◌};
 ghost use Rattle.condition.specs.Rightmost.{judged};
-ghost use Rattle.condition.specs.Contract.{none_kept, added, says_or};
+ghost use Rattle.condition.specs.Contract.{none_kept, added};
 
 // What is kept of the alternatives so far.
-#[derive(Clone, Copy)]
+#[derive(Clone, Copy, PartialEq, Eq)]
 pub struct Rightmost {
-    // Whether one applied, and what the last of those says.
-    pub applied: bool,
-    pub accepts: bool,
+    // What the last that applied says; none applied otherwise.
+    pub said: Option<bool>,
     // Whether all are negated.
     pub negated: bool,
     // Whether there is any.
     pub some: bool,
-}
-
-fn and(a: bool, b: bool) -> bool
-    ensures { result ≡ a && b }
-{
-    if a { b } else { false }
 }
 
 impl Rightmost {
@@ -27,47 +21,35 @@ impl Rightmost {
         ensures { result ≡ none_kept }
     {
         Rightmost {
-            applied: false,
-            accepts: false,
+            said: None,
             negated: true,
             some: false,
         }
     }
 
     // The next alternative, in the order written.
+    #[tactic(auto, unfolding(crate::specs::Contract::added))]
     pub fn add(self, negated: bool, applies: bool) -> Self
         ensures { result ≡ added self (judged negated applies) }
     {
-        let all = and(self.negated, negated);
-        if applies {
-            return Rightmost {
-                applied: true,
-                accepts: !negated,
-                negated: all,
-                some: true,
-            };
-        }
         Rightmost {
-            applied: self.applied,
-            accepts: self.accepts,
-            negated: all,
+            said: if applies { Some(!negated) } else { self.said },
+            negated: self.negated && negated,
             some: true,
         }
     }
 
     // What the rightmost that applied says, or the default where none did.
     pub fn says(self, default: bool) -> bool
-        ensures { result ≡ says_or self default }
+        ensures { result ≡ unwrap_or self.said default }
     {
-        let applied = self.applied;
-        if applied { self.accepts } else { default }
+        self.said.unwrap_or(default)
     }
 
     // Where none applied, the times are accepted if all are negated.
     pub fn times_accept(self) -> bool
-        ensures { result ≡ says_or self self.negated }
+        ensures { result ≡ unwrap_or self.said self.negated }
     {
-        let negated = self.negated;
-        self.says(negated)
+        self.says(self.negated)
     }
 }

@@ -1,28 +1,25 @@
 -- The definitions computed: what question lines ask, what is printed for each kind of answer, and 01's worked lines. Assumes nothing.
+use Rattle.std.specs.Prelude.{None, Option, Some}
+use Rattle.question.specs.declared.Age.{Age}
 use mathlib.Core.Path.{◌≡◌, refl}
 use mathlib.Core.Bool.{false}
 use mathlib.Core.List.{List, [], ◌∷◌, ◌++◌, map}
-use mathlib.Core.Option.{Option, none, some}
 use Prim.Native.Nat.{ℕ}
 use lib.IntN.{ℤ, pos, negsuc}
 use lib.ListN.{replicate}
 use Rattle.text.specs.Bytes.{bytes}
-use Rattle.options.specs.declared.span.Span.TheVariants.{Nothing}
-use Rattle.question.specs.declared.LastAuthentication.{LastAuthentication}
-use Rattle.question.specs.declared.LastAuthentication.TheVariants.{Never, Minutes}
 use Rattle.answer.specs.Answer.{Grant, Told, told, granted, at_line, at_place}
 use Rattle.answer.specs.Meaning.{Asked}
 use Rattle.console.specs.QuestionLine.{number_in, minute_in, age_in, groups_in, arguments_in, asked_from, good_line, asked_in}
 use Rattle.output.specs.Decimal.{written, decimal}
 use Rattle.console.specs.Printed.{id_text, grant_text, stop_text, refusal_text, printed}
-use Rattle.options.specs.declared.timeout.Timeout.TheVariants.{Unset}
 
 -- ---- what a question line asks
-asked : List ℕ → List ℕ → List ℕ → List ℕ → ℕ → LastAuthentication → List ℕ → Option Asked
-asked command user groups host minute age args = some (record { command = command; user = user; groups = groups; host = host; minute = record { 0 = minute }; age = age; args = args })
+asked : List ℕ → List ℕ → List ℕ → List ℕ → ℕ → (Option Age) → List ℕ → Option Asked
+asked command user groups host minute age args = Some (record { command = command; user = user; groups = groups; host = host; minute = record { 0 = minute }; age = age; args = args })
 
-ago : ℤ → LastAuthentication
-ago minutes = Minutes (record { 0 = minutes })
+ago : ℤ → (Option Age)
+ago minutes = Some (record { 0 = minutes })
 
 -- good lines: 01's, a group list in which `-` is a name, empty arguments, numbers with leading zeros, the ages at the limits
 pub lines : List (List ℕ)
@@ -42,18 +39,18 @@ pub asks : List (Option Asked)
 unfolding asked ago
 asks =
     asked (bytes "setclock") (bytes "ann") [] (bytes "van2") 1049 (ago (pos 15)) []
-    ∷ asked (bytes "setclock") (bytes "tom") [] (bytes "van2") 1049 Never []
-    ∷ asked (bytes "cal/adc") (bytes "kim") (bytes "bench" ++ 0 ∷ []) (bytes "shop") 0 Never (bytes "a" ++ 0 ∷ bytes "b" ++ 0 ∷ bytes "c" ++ 0 ∷ [])
+    ∷ asked (bytes "setclock") (bytes "tom") [] (bytes "van2") 1049 None []
+    ∷ asked (bytes "cal/adc") (bytes "kim") (bytes "bench" ++ 0 ∷ []) (bytes "shop") 0 None (bytes "a" ++ 0 ∷ bytes "b" ++ 0 ∷ bytes "c" ++ 0 ∷ [])
     ∷ asked (bytes "c") (bytes "u") (bytes "a" ++ 0 ∷ bytes "-" ++ 0 ∷ bytes "b" ++ 0 ∷ []) (bytes "h") 10079 (ago (pos 0)) []
     ∷ asked (bytes "c") (bytes "u") [] (bytes "h") 5 (ago (pos 0)) (0 ∷ [])
-    ∷ asked (bytes "c") (bytes "u") [] (bytes "h") 5 Never (0 ∷ 0 ∷ bytes "x" ++ 0 ∷ 0 ∷ [])
+    ∷ asked (bytes "c") (bytes "u") [] (bytes "h") 5 None (0 ∷ 0 ∷ bytes "x" ++ 0 ∷ 0 ∷ [])
     ∷ asked (bytes "c") (bytes "u") (0 ∷ bytes "a" ++ 0 ∷ []) (bytes "h") 5 (ago (pos 2147483647)) []
     ∷ asked (bytes "c") (bytes "u") [] (bytes "h") 5 (ago (negsuc 2147483647)) []
-    ∷ asked (bytes "c") [] [] (bytes "h") 5 Never []
+    ∷ asked (bytes "c") [] [] (bytes "h") 5 None []
     ∷ []
 
 pub lines_ask : map asked_in lines ≡ asks
-unfolding lines asks asked ago mathlib.Core.Option.bind mathlib.Core.List.flat_map Rattle.text.specs.Class.digit Rattle.text.specs.Lists.has Rattle.text.specs.Lists.any Rattle.text.specs.Lists.split_at Rattle.text.specs.Number.digits Rattle.text.specs.Slice.same Rattle.text.specs.Slice.starts_with number_in minute_in age_in groups_in arguments_in asked_from good_line asked_in
+unfolding lines asks asked ago mathlib.Core.List.flat_map Rattle.text.specs.Class.digit Rattle.text.specs.Lists.has Rattle.text.specs.Lists.split_at Rattle.text.specs.Number.digits number_in minute_in age_in groups_in arguments_in asked_from good_line asked_in
 lines_ask = refl
 
 -- lines that are not of the form
@@ -76,13 +73,13 @@ malformed =
     ∷ (bytes "c u - h 5 5 a" ++ 0 ∷ [])
     ∷ []
 
-pub malformed_ask_nothing : map asked_in malformed ≡ replicate 15 none
-unfolding malformed mathlib.Core.Option.bind mathlib.Core.List.flat_map Rattle.text.specs.Class.digit Rattle.text.specs.Lists.has Rattle.text.specs.Lists.any Rattle.text.specs.Lists.split_at Rattle.text.specs.Number.digits Rattle.text.specs.Slice.same Rattle.text.specs.Slice.starts_with number_in minute_in age_in groups_in arguments_in asked_from good_line asked_in
+pub malformed_ask_nothing : map asked_in malformed ≡ replicate 15 None
+unfolding malformed mathlib.Core.List.flat_map Rattle.text.specs.Class.digit Rattle.text.specs.Lists.has Rattle.text.specs.Lists.split_at Rattle.text.specs.Number.digits number_in minute_in age_in groups_in arguments_in asked_from good_line asked_in
 malformed_ask_nothing = refl
 
 -- ---- what is printed
 grant : List ℕ → List ℕ → List ℕ → List ℕ → Grant
-grant uid euid gid egid = record { line = 1203; path = bytes "/bin/x"; uid = uid; euid = euid; gid = gid; egid = egid; auth = false; timeout = Unset; nargs = Nothing; written = 11 }
+grant uid euid gid egid = record { line = 1203; path = bytes "/bin/x"; uid = uid; euid = euid; gid = gid; egid = egid; auth = false; timeout = None; nargs = None; written = 11 }
 
 pub answers : List Told
 unfolding grant

@@ -1,4 +1,6 @@
 -- The laws of parts ended by zero bytes, and of the scratch that they are put into. Assumes nothing.
+use Rattle.std.specs.Prelude.{None, Option, Some}
+use Rattle.std.specs.Str.{bytes_eq}
 use mathlib.Core.Path.{◌≡◌, refl, sym, ap, ◌∙◌}
 use mathlib.Core.Bool.{Bool, true, false, cond}
 use mathlib.Core.List.{List, [], ◌∷◌, ◌++◌, flat_map}
@@ -10,10 +12,7 @@ use lib.ListN.{length, take, drop, get_or, length-drop, drop_of_length-le}
 use lib.Seq.{take_at, drop_at, take-take}
 use Rattle.text.specs.Bytes.{byte, bytes}
 use Rattle.text.specs.Lists.{onto, split_at}
-use Rattle.text.specs.Slice.{same}
 use Rattle.text.specs.Contract.{Wrote}
-use Rattle.text.specs.declared.buffer.Filled.{Filled}
-use Rattle.text.specs.declared.buffer.Filled.TheVariants.{Done, Full}
 use Rattle.text.proofs.Laws.{next, part_rest, drop_take}
 use Rattle.text.proofs.Splits.{split_some}
 use Rattle.text.proofs.Buffers.{wrote_done, wrote_then, wrote_read, up_full}
@@ -50,17 +49,17 @@ parts_length c (b ∷ s) = ap length (parts_first c b s) ∙ rw (parts_length c 
 
 -- GROUPS
 module _ (s : List ℕ) where
-  pub groups_none : same s (bytes "-") ≡ true → groups_in s ≡ []
+  pub groups_none : bytes_eq s (bytes "-") ≡ true → groups_in s ≡ []
   unfolding groups_in
   groups_none e = rw e
 
-  pub groups_some : same s (bytes "-") ≡ false → groups_in s ≡ ended_parts (byte ",") s
+  pub groups_some : bytes_eq s (bytes "-") ≡ false → groups_in s ≡ ended_parts (byte ",") s
   unfolding groups_in
   groups_some e = rw e
 
   pub groups_length : length (groups_in s) ≤ length s + 1
   unfolding groups_in
-  groups_length = go (same s (bytes "-"))
+  groups_length = go (bytes_eq s (bytes "-"))
     where
       go : (t : Bool) → length (cond t [] (ended_parts (byte ",") s)) ≤ length s + 1
       go true = omega arith
@@ -85,11 +84,11 @@ module _ (e : ℕ) (s : List ℕ) where
       go false q = omega arith
 
 -- bytes that fit are put
-pub fits : {old new : List ℕ} {n : ℕ} {xs : List ℕ} {r : Filled} → Wrote old new n xs r → n + length xs ≤ length old → r ≡ Full → ⊥
+pub fits : {old new : List ℕ} {n : ℕ} {xs : List ℕ} {r : Option ℕ} → Wrote old new n xs r → n + length xs ≤ length old → r ≡ None → ⊥
 fits {old} {new} {n} {xs} w h e = let k = up_full (length old) (n + length xs) (sym w.answer ∙ e) in omega arith
 
 -- two lists put one behind the other, read back
-module _ {old mid new : List ℕ} {xs ys : List ℕ} {r q : Filled} {k m : ℕ} (w : Wrote old mid 0 xs r) (e : r ≡ Done k) (v : Wrote mid new k ys q) (f : q ≡ Done m) where
+module _ {old mid new : List ℕ} {xs ys : List ℕ} {r q : Option ℕ} {k m : ℕ} (w : Wrote old mid 0 xs r) (e : r ≡ Some k) (v : Wrote mid new k ys q) (f : q ≡ Some m) where
   ends : (k ≡ length xs) × (m ≡ k + length ys) × (m ≤ length old)
   ends =
       let a = wrote_done w e in

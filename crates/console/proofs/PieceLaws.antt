@@ -1,26 +1,22 @@
 -- The laws of the pieces of a question line. Assumes nothing.
+use Rattle.std.specs.List.{list_any}
+use Rattle.std.specs.Prelude.{None, Option, Some}
+use Rattle.question.specs.declared.Age.{Age}
 use mathlib.Core.Path.{◌≡◌, refl, ap, ◌∙◌}
 use mathlib.Core.Bool.{Bool, true, false, cond}
 use mathlib.Core.List.{List, [], ◌∷◌}
-use mathlib.Core.Option.{none, some, bind}
 use Prim.Native.Nat.{ℕ, suc, ◌+◌, ◌-◌, ◌≤◌, ◌<◌}
 use native.Mathlib.Omega.{arith}
 use native.Mathlib.Decide.{dec_le}
 use borrow.Author.Tests.{le-leb, lt-leb, ltb-true, ltb-false}
-use lib.Dec.{ltb}
+use lib.Dec.{eqb, ltb}
 use lib.ListN.{length, drop, drop_of_length-le}
-use Rattle.text.specs.Lists.{split_at}
-use Rattle.text.specs.Contract.{lead, find_byte, Wrote}
-use Rattle.text.specs.declared.buffer.Filled.{Filled}
-use Rattle.text.specs.declared.buffer.Filled.TheVariants.{Done, Full}
-use Rattle.text.specs.declared.slice.Found.TheVariants.{At, Nothing}
+use Rattle.text.specs.Lists.{has, split_at}
+use Rattle.text.specs.Contract.{lead, Wrote}
 use Rattle.text.proofs.Laws.{part_rest, part_length, both_no}
 use Rattle.text.proofs.Buffers.{wrote_done, wrote_length}
-use Rattle.text.proofs.Lists.{has_at}
 use Rattle.text.proofs.Leads.{split_at_law, split_last}
-use Rattle.text.proofs.Slices.{byte_at, byte_none}
 use Rattle.question.specs.declared.WeekMinute.{WeekMinute}
-use Rattle.question.specs.declared.LastAuthentication.{LastAuthentication}
 use Rattle.console.specs.QuestionLine.{line_limit, minute_in, age_in, groups_in, arguments_in, asked_from, good_line, asked_in}
 use Rattle.console.specs.Contract.{EndsOf, arguments_behind, part}
 use Rattle.console.specs.declared.question_line.Ends.{Ends}
@@ -44,7 +40,7 @@ end_within s from end e h = elim (dec_le from (length s)) [
     past g = let z = lead_nothing s from g in omega (arith, z)
 
 -- fewer than six pieces are not of the form
-few_asked : (ps : List (List ℕ)) → length ps ≤ 5 → none ≡ asked_from ps
+few_asked : (ps : List (List ℕ)) → length ps ≤ 5 → None ≡ asked_from ps
 unfolding asked_from
 few_asked [] h = refl
 few_asked (a ∷ []) h = refl
@@ -79,7 +75,7 @@ module _ (s : List ℕ) (from end : ℕ) (q : end ≡ from + lead 32 (drop from 
 
 module _ (s : List ℕ) (e : Ends) (w : EndsOf s e) where
   -- the fifth piece is the last, or there are fewer
-  pub few_pieces : length s ≤ e.minute → none ≡ asked_from (split_at 32 s)
+  pub few_pieces : length s ≤ e.minute → None ≡ asked_from (split_at 32 s)
   few_pieces h =
       let l5 = pieces_last s (e.host + 1) e.minute w.minute h in
       let l4 = pieces_more s (e.groups + 1) e.host w.host 1 l5 (omega arith) in
@@ -106,52 +102,52 @@ module _ (s : List ℕ) (e : Ends) (w : EndsOf s e) where
         ∙ ap (λ x. part s (e.groups + 1) e.host ∷ x) (split_at_law 32 s (e.host + 1) e.minute w.minute h
         ∙ ap (λ x. part s (e.host + 1) e.minute ∷ x) (last_piece s (e.minute + 1) e.age w.age o.5)))))
 
-    pub no_minute : none ≡ minute_in (part s (e.host + 1) e.minute) → none ≡ asked_from (split_at 32 s)
-    unfolding asked_from bind
+    pub no_minute : None ≡ minute_in (part s (e.host + 1) e.minute) → None ≡ asked_from (split_at 32 s)
+    unfolding asked_from
     no_minute q = rw (six_pieces, ← q)
 
-    module _ (m : WeekMinute) (p : some m ≡ minute_in (part s (e.host + 1) e.minute)) where
-      pub no_age : none ≡ age_in (part s (e.minute + 1) e.age) → none ≡ asked_from (split_at 32 s)
-      unfolding asked_from bind
+    module _ (m : WeekMinute) (p : Some m ≡ minute_in (part s (e.host + 1) e.minute)) where
+      pub no_age : None ≡ age_in (part s (e.minute + 1) e.age) → None ≡ asked_from (split_at 32 s)
+      unfolding asked_from
       no_age q = rw (six_pieces, ← p, ← q)
 
-      pub all_pieces : (a : LastAuthentication) (g x : List ℕ) → some a ≡ age_in (part s (e.minute + 1) e.age) → g ≡ groups_in (part s (e.user + 1) e.groups) → x ≡ arguments_in (arguments_behind e.age s)
-          → some (record { command = part s 0 e.command; user = part s (e.command + 1) e.user; groups = g; host = part s (e.groups + 1) e.host; minute = m; age = a; args = x }) ≡ asked_from (split_at 32 s)
-      unfolding asked_from bind
+      pub all_pieces : (a : (Option Age)) (g x : List ℕ) → Some a ≡ age_in (part s (e.minute + 1) e.age) → g ≡ groups_in (part s (e.user + 1) e.groups) → x ≡ arguments_in (arguments_behind e.age s)
+          → Some (record { command = part s 0 e.command; user = part s (e.command + 1) e.user; groups = g; host = part s (e.groups + 1) e.host; minute = m; age = a; args = x }) ≡ asked_from (split_at 32 s)
+      unfolding asked_from
       all_pieces a g x q i j = rw (six_pieces, ← p, ← q, i, j)
 
 -- the whole line
 module _ (s : List ℕ) where
-  pub long_line : line_limit < length s → none ≡ asked_in s
+  pub long_line : line_limit < length s → None ≡ asked_in s
   unfolding asked_in good_line
   long_line h = rw (lt-leb (length s) line_limit h)
 
-  pub zero_in_line : (i : ℕ) → find_byte 0 0 s ≡ At i → none ≡ asked_in s
-  unfolding asked_in good_line
-  zero_in_line i e = let t = byte_at 0 s i e in rw (has_at 0 s i t.0 t.1, both_no)
+  pub zero_in_line : list_any (λ b. eqb b 0) s ≡ true → None ≡ asked_in s
+  unfolding asked_in good_line has
+  zero_in_line e = rw (e, both_no)
 
-  pub good_line_law : length s ≤ line_limit → find_byte 0 0 s ≡ Nothing → asked_from (split_at 32 s) ≡ asked_in s
-  unfolding asked_in good_line
-  good_line_law h e = rw (le-leb (length s) line_limit h, byte_none 0 0 s e)
+  pub good_line_law : length s ≤ line_limit → list_any (λ b. eqb b 0) s ≡ false → asked_from (split_at 32 s) ≡ asked_in s
+  unfolding asked_in good_line has
+  good_line_law h e = rw (le-leb (length s) line_limit h, e)
 
 -- the groups and the arguments fit into a scratch as long as the longest line
-module _ (s : List ℕ) (e : Ends) (w : EndsOf s e) (h : e.minute < length s) (l : length s ≤ line_limit) {old mid : List ℕ} (z : length old ≡ line_limit) {r : Filled} (v : Wrote old mid 0 (groups_in (part s (e.user + 1) e.groups)) r) where
+module _ (s : List ℕ) (e : Ends) (w : EndsOf s e) (h : e.minute < length s) (l : length s ≤ line_limit) {old mid : List ℕ} (z : length old ≡ line_limit) {r : Option ℕ} (v : Wrote old mid 0 (groups_in (part s (e.user + 1) e.groups)) r) where
   groups_few : length (groups_in (part s (e.user + 1) e.groups)) ≤ e.groups - e.user
   groups_few =
       let o = ends_order s e w h in
       let k : e.groups ≤ length s = omega (arith, o.2, o.3) in
       omega (arith, o.1, groups_length (part s (e.user + 1) e.groups), part_length s (e.user + 1) e.groups k)
 
-  pub groups_fit : r ≡ Full → ⊥
+  pub groups_fit : r ≡ None → ⊥
   groups_fit q =
       let o = ends_order s e w h in
       let k : e.groups ≤ length s = omega (arith, o.2, o.3) in
       fits v (omega (arith, groups_few)) q
 
-  pub groups_within : {k : ℕ} → r ≡ Done k → k ≤ length mid
+  pub groups_within : {k : ℕ} → r ≡ Some k → k ≤ length mid
   groups_within q = let d = wrote_done v q in omega (arith, d.0, wrote_length v)
 
-  pub arguments_fit : {k : ℕ} {new : List ℕ} {q : Filled} → r ≡ Done k → Wrote mid new k (arguments_in (arguments_behind e.age s)) q → q ≡ Full → ⊥
+  pub arguments_fit : {k : ℕ} {new : List ℕ} {q : Option ℕ} → r ≡ Some k → Wrote mid new k (arguments_in (arguments_behind e.age s)) q → q ≡ None → ⊥
   arguments_fit {k} d x q =
       let o = ends_order s e w h in
       let y = wrote_done v d in

@@ -1,8 +1,8 @@
 -- A response has at most 2,048 bytes. Assumes nothing.
+use Rattle.std.specs.Prelude.{Err, None, Ok, Option, Result, Some}
 use mathlib.Core.Path.{◌≡◌, refl}
 use mathlib.Core.Bool.{Bool, true, false, cond}
 use mathlib.Core.List.{List, [], ◌++◌}
-use mathlib.Core.Option.{Option, none, some}
 use Prim.Native.Nat.{ℕ, ◌+◌, ◌≤◌}
 use native.Mathlib.Omega.{arith}
 use borrow.Author.Tests.{le-leb}
@@ -11,13 +11,12 @@ use lib.ListN.{length, length-append, replicate, length-replicate}
 use Rattle.text.specs.Bytes.{bytes}
 use Rattle.text.specs.Lists.{null}
 use Rattle.text.proofs.Laws.{pick_of}
-use Rattle.fault.specs.Fault.{Reading, fault, value}
 use Rattle.fault.specs.declared.Cause.{Cause}
 use Rattle.question.specs.Question.{Question}
 use Rattle.line.specs.Line.{table_limit}
 use Rattle.line.specs.Fold.{Refusal, faulty, cut}
-use Rattle.line.specs.declared.whole.Acceptance.{Acceptance}
-use Rattle.line.specs.declared.whole.Acceptance.TheVariants.{Accepted, Long, RefusedAt}
+use Rattle.line.specs.declared.whole.Unaccepted.{Unaccepted}
+use Rattle.line.specs.declared.whole.Unaccepted.TheVariants.{Long, RefusedAt}
 use Rattle.line.specs.Whole.{acceptance_of}
 use Rattle.line.proofs.WithinLaws.{ReadWithin}
 use Rattle.line.proofs.WholeLaws.{accepted_short, refused_within}
@@ -69,11 +68,11 @@ module _ (t : List ℕ) (a : Asked) (b : List ℕ) where
   unfolding told_of
   short_lines w h = go (lines_give w.question t) refl (lines_give_law w.question t)
     where
-      go : (r : Reading (Refusal Cause) (Option Decision)) → lines_give w.question t ≡ r → ReadWithin (length t) (Give (length t)) r → ShortTold (told_by (answer_of t a b))
-      go (fault (faulty c p)) e k = rw (read w, e) (record { number = (cause_number c).1; beside = omega arith })
-      go (fault (cut p)) e k = rw (read w, e) (record { number = omega arith; beside = omega arith })
-      go (value none) e k = rw (read w, e) (record { number = omega arith; beside = omega arith })
-      go (value (some d)) e k = rw (decision_told w d e) (short_verdict d.line d.verdict (omega (arith, k.1)) k.0)
+      go : (r : Result (Option Decision) (Refusal Cause)) → lines_give w.question t ≡ r → ReadWithin (length t) (Give (length t)) r → ShortTold (told_by (answer_of t a b))
+      go (Err (faulty c p)) e k = rw (read w, e) (record { number = (cause_number c).1; beside = omega arith })
+      go (Err (cut p)) e k = rw (read w, e) (record { number = omega arith; beside = omega arith })
+      go (Ok None) e k = rw (read w, e) (record { number = omega arith; beside = omega arith })
+      go (Ok (Some d)) e k = rw (decision_told w d e) (short_verdict d.line d.verdict (omega (arith, k.1)) k.0)
 
   -- an answer with room in the buffer tells what is short
   pub short_told : least_buffer ≤ length b → ShortTold (told_by (answer_of t a b))
@@ -83,14 +82,14 @@ module _ (t : List ℕ) (a : Asked) (b : List ℕ) where
       room : leb least_buffer (length b) ≡ true
       room = le-leb least_buffer (length b) r
 
-      bytes : (q : Question) → asks a ≡ some q → (x : Acceptance) → acceptance_of t ≡ x → ShortTold (told_by (answer_of t a b))
-      bytes q g Long e = rw (room, g, e) (record { number = omega arith; beside = omega arith })
-      bytes q g (RefusedAt p) e = rw (room, g, e) (record { number = omega arith; beside = omega (arith, refused_within t e) })
-      bytes q g Accepted e = short_lines (record { question = q; room = room; good = g; accepted = e }) (accepted_short t e)
+      bytes : (q : Question) → asks a ≡ Some q → (x : Result Unit Unaccepted) → acceptance_of t ≡ x → ShortTold (told_by (answer_of t a b))
+      bytes q g (Err Long) e = rw (room, g, e) (record { number = omega arith; beside = omega arith })
+      bytes q g (Err (RefusedAt p)) e = rw (room, g, e) (record { number = omega arith; beside = omega (arith, refused_within t e) })
+      bytes q g (Ok accepted) e = short_lines (record { question = q; room = room; good = g; accepted = e }) (accepted_short t e)
 
       good : (o : Option Question) → asks a ≡ o → ShortTold (told_by (answer_of t a b))
-      good none e = rw (room, e) (record { number = omega arith; beside = omega arith })
-      good (some q) e = bytes q e (acceptance_of t) refl
+      good None e = rw (room, e) (record { number = omega arith; beside = omega arith })
+      good (Some q) e = bytes q e (acceptance_of t) refl
 
 -- ---- what is short is printed in 2,048 bytes
 id_length : (name id : List ℕ) → length (id_text name id) ≤ length name + length id
@@ -140,8 +139,8 @@ unfolding response
 response_length table line = go (asked_in line)
   where
     go : (o : Option Asked) → length (printed (told_for table o)) ≤ 2048
-    go none = printed_length (told 10 (at_place 0)) (record { number = omega arith; beside = omega arith })
-    go (some a) = printed_length (told_for table (some a)) (short_told table a (replicate least_buffer 0) (rw (length-replicate {A = ℕ} least_buffer 0) (omega arith)))
+    go None = printed_length (told 10 (at_place 0)) (record { number = omega arith; beside = omega arith })
+    go (Some a) = printed_length (told_for table (Some a)) (short_told table a (replicate least_buffer 0) (rw (length-replicate {A = ℕ} least_buffer 0) (omega arith)))
 
 -- ---- a line's record has eight bytes at most
 pub logged_length : (table line : List ℕ) → length (logged table line) ≤ 8
@@ -149,5 +148,5 @@ unfolding logged
 logged_length table line = go (asked_in line)
   where
     go : (o : Option Asked) → length (logged_for table o) ≤ 8
-    go none = omega arith
-    go (some a) = bytes_most _
+    go None = omega arith
+    go (Some a) = bytes_most _

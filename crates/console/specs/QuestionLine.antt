@@ -1,15 +1,15 @@
 -- What a question line asks (01: "The program's question line is `COMMAND USER GROUPS HOST MINUTE AGE ARGS`, single spaces, `-` for no group (groups are comma-joined) or never").
-use Rattle.std.specs.Prelude.{Bool, not, cond, ◌&&◌, ℕ, ℤ, pos, neg_ℤ, leb, ltb, length, drop}
+use Rattle.std.specs.Option.{option_and_then}
+use Rattle.question.specs.declared.Age.{Age}
+use Rattle.std.specs.Str.{bytes_eq}
+use Rattle.std.specs.Prelude.{Bool, not, cond, ◌&&◌, ℕ, ℤ, pos, neg_ℤ, leb, ltb, length, drop, None, Option, Some}
 use mathlib.Core.List.{List, [], ◌∷◌, flat_map}
-use Rattle.std.proofs.Math.Option.{Option, none, some, bind}
 use Rattle.text.specs.Bytes.{byte, bytes}
 use Rattle.text.specs.Lists.{null, has, split_at}
 use Rattle.text.specs.Number.{digits}
-use Rattle.text.specs.Slice.{same, starts_with}
+use Rattle.text.specs.Slice.{starts_with}
 use Rattle.question.specs.Question.{week_minutes}
 use Rattle.question.specs.declared.WeekMinute.{WeekMinute}
-use Rattle.question.specs.declared.LastAuthentication.{LastAuthentication}
-use Rattle.question.specs.declared.LastAuthentication.TheVariants.{Never, Minutes}
 use Rattle.answer.specs.Meaning.{Asked, ended}
 
 -- "A question line has at most 32,768 bytes"
@@ -26,12 +26,12 @@ most_age_below = 2147483648
 -- "one or more digits", of any length, leading zeros too
 unfoldable pub number_in : List ℕ → Option ℕ
 unfolding digits
-number_in s = cond (null s) none (digits 0 s)
+number_in s = cond (null s) None (digits 0 s)
 
 -- a number as a minute of the week, "0 to 10,079"; a question with any other is not as 01 wants it
 abbrev pub minute_from : Option ℕ → Option WeekMinute
-minute_from none = none
-minute_from (some v) = cond (ltb v week_minutes) (some (record { 0 = v })) none
+minute_from None = None
+minute_from (Some v) = cond (ltb v week_minutes) (Some (record { 0 = v })) None
 
 -- "MINUTE is one or more digits"
 unfoldable pub minute_in : List ℕ → Option WeekMinute
@@ -39,22 +39,22 @@ unfolding number_in
 minute_in s = minute_from (number_in s)
 
 -- a number with its sign as an age: "any signed 32-bit number of minutes, below zero where the clock went back"
-abbrev pub age_from : (ℕ → ℤ) → ℕ → Option ℕ → Option LastAuthentication
-age_from sign most none = none
-age_from sign most (some v) = cond (leb v most) (some (Minutes (record { 0 = sign v }))) none
+abbrev pub age_from : (ℕ → ℤ) → ℕ → Option ℕ → Option (Option Age)
+age_from sign most None = None
+age_from sign most (Some v) = cond (leb v most) (Some (Some (record { 0 = sign v }))) None
 
 -- "AGE is `-`, or an optional `-` and one or more digits (`-0` is 0); no `+`"
-unfoldable pub age_in : List ℕ → Option LastAuthentication
-unfolding number_in same starts_with
+unfoldable pub age_in : List ℕ → Option (Option Age)
+unfolding number_in
 age_in s =
-    cond (same s (bytes "-")) (some Never)
+    cond (bytes_eq s (bytes "-")) (Some None)
     (cond (starts_with (bytes "-") s) (age_from (λ n. neg_ℤ (pos n)) most_age_below (number_in (drop 1 s)))
     (age_from pos most_age (number_in s)))
 
 -- "GROUPS of just `-` is no group; in a list `-` is a name": the names between commas, each ended by a zero byte
 unfoldable pub groups_in : List ℕ → List ℕ
-unfolding same split_at flat_map
-groups_in s = cond (same s (bytes "-")) [] (flat_map ended (split_at (byte ",") s))
+unfolding split_at flat_map
+groups_in s = cond (bytes_eq s (bytes "-")) [] (flat_map ended (split_at (byte ",") s))
 
 -- the arguments, each ended by a zero byte
 unfoldable pub arguments_in : List (List ℕ) → List ℕ
@@ -63,16 +63,16 @@ arguments_in args = flat_map ended args
 
 -- what the pieces between spaces ask; fewer than six are not of the form, and "behind AGE an empty piece is an empty argument, before it a fault (10)": an empty MINUTE or AGE here, any other in the question that is asked
 unfoldable pub asked_from : List (List ℕ) → Option Asked
-unfolding minute_in age_in groups_in arguments_in bind
-asked_from [] = none
-asked_from (command ∷ []) = none
-asked_from (command ∷ user ∷ []) = none
-asked_from (command ∷ user ∷ groups ∷ []) = none
-asked_from (command ∷ user ∷ groups ∷ host ∷ []) = none
-asked_from (command ∷ user ∷ groups ∷ host ∷ minute ∷ []) = none
+unfolding minute_in age_in groups_in arguments_in
+asked_from [] = None
+asked_from (command ∷ []) = None
+asked_from (command ∷ user ∷ []) = None
+asked_from (command ∷ user ∷ groups ∷ []) = None
+asked_from (command ∷ user ∷ groups ∷ host ∷ []) = None
+asked_from (command ∷ user ∷ groups ∷ host ∷ minute ∷ []) = None
 asked_from (command ∷ user ∷ groups ∷ host ∷ minute ∷ age ∷ args) =
-    bind (minute_in minute) (λ m. bind (age_in age) (λ a.
-    some (record { command = command; user = user; groups = groups_in groups; host = host; minute = m; age = a; args = arguments_in args })))
+    option_and_then (λ m. option_and_then (λ a.
+    Some (record { command = command; user = user; groups = groups_in groups; host = host; minute = m; age = a; args = arguments_in args })) (age_in age)) (minute_in minute)
 
 -- the line is short enough, and "a zero byte in a question line is `refused 10 0`"
 unfoldable pub good_line : List ℕ → Bool
@@ -82,4 +82,4 @@ good_line line = leb (length line) line_limit && not (has 0 line)
 -- what a line, without its newline, asks; none is a line "not of this form". "Every space parts"
 unfoldable pub asked_in : List ℕ → Option Asked
 unfolding good_line asked_from split_at
-asked_in line = cond (good_line line) (asked_from (split_at (byte " ") line)) none
+asked_in line = cond (good_line line) (asked_from (split_at (byte " ") line)) None

@@ -1,25 +1,23 @@
 // The printed line of an answer, with its newline.
-ghost use Rattle.std.specs.Prelude.{◌≡◌};
+ghost use Rattle.std.specs.Prelude.{◌≡◌, ◌++◌};
+ghost use Rattle.text.specs.Bytes.{bytes};
 ghost use Rattle.text.specs.Contract.{Wrote};
 ghost use Rattle.answer.specs.Answer.{string_in, grant_in, told_of};
 ghost use Rattle.output.specs.Contract.{WroteAfter};
-ghost use Rattle.console.specs.Printed.{id_text, grant_text, stop_word, stop_text, refusal_text, printed};
-ghost use Rattle.console.specs.Contract.{grant_beside, number_beside};
+ghost use Rattle.output.specs.Decimal.{decimal};
+ghost use Rattle.console.specs.Printed.{id_text, grant_text, refusal_text, printed};
 
-use answer::number::number_of;
 use answer::{Answer, Granted};
 use line::whole::WholeText;
-use options::span::Span;
-use options::timeout::Timeout;
 use output::behind::{then_all, then_decimal};
-use text::buffer::{Filled, put_all};
-use text::number::at_most;
+use text::buffer::put_all;
 
 // An id behind what was put before, if it is set.
-fn then_id(filled: Filled, name: &[u8], id: &[u8], out: &mut [u8]) -> Filled
+#[tactic(auto, using(output::proofs::BehindLaws::after_none, output::proofs::BehindLaws::after_then), unfolding(crate::specs::Printed::id_text))]
+fn then_id(filled: Option<usize>, name: &[u8], id: &[u8], out: &mut [u8]) -> Option<usize>
     ensures { WroteAfter filled out.old out.new (id_text name.now id.now) result }
 {
-    if id.len() == 0 {
+    if id.is_empty() {
         return filled;
     }
     let named = then_all(filled, name, out);
@@ -30,16 +28,13 @@ fn then_id(filled: Filled, name: &[u8], id: &[u8], out: &mut [u8]) -> Filled
 fn string_in(buffer: &[u8], at: usize, end: usize) -> &[u8]
     ensures { result.now ≡ string_in buffer.now at end }
 {
-    if end <= at {
-        return &buffer[0..0];
-    }
-    let from = at_most(at, buffer.len());
-    let size = at_most(end - at - 1, buffer.len() - from);
-    &buffer[from..from + size]
+    let rest = &buffer[at.min(buffer.len())..];
+    let size = end.saturating_sub(at).saturating_sub(1);
+    &rest[..size.min(rest.len())]
 }
 
 // The line of a permit.
-fn put_grant(word: &[u8], grant: Granted, buffer: &[u8], out: &mut [u8]) -> Filled
+fn put_grant(word: &[u8], grant: Granted, buffer: &[u8], out: &mut [u8]) -> Option<usize>
     ensures { Wrote out.old out.new 0 (grant_text word.now (grant_in buffer.now grant)) result }
 {
     let line = then_decimal(put_all(out, 0, word), grant.line, out);
@@ -72,27 +67,17 @@ fn put_grant(word: &[u8], grant: Granted, buffer: &[u8], out: &mut [u8]) -> Fill
     then_all(egid, b"\n", out)
 }
 
-// Why the deciding entry stops, by the answer's number.
-fn then_stop_word(filled: Filled, number: u8, out: &mut [u8]) -> Filled
-    ensures { WroteAfter filled out.old out.new (stop_word number) result }
-{
-    match number {
-        3 => then_all(filled, b" nargs\n", out),
-        4 => then_all(filled, b" arg\n", out),
-        _ => then_all(filled, b" path\n", out),
-    }
-}
-
-// The line of a decision that stops.
-fn put_stop(number: u8, line: usize, out: &mut [u8]) -> Filled
-    ensures { Wrote out.old out.new 0 (stop_text number line) result }
+// The line of a decision that stops, and why.
+fn put_stop(line: usize, why: &[u8], out: &mut [u8]) -> Option<usize>
+    ensures { Wrote out.old out.new 0 (bytes "stopped " ++ decimal line ++ why.now) result }
 {
     let stopped = then_decimal(put_all(out, 0, b"stopped "), line, out);
-    then_stop_word(stopped, number, out)
+    then_all(stopped, why, out)
 }
 
 // The line of a refusal.
-pub fn put_refusal(number: u8, place: usize, out: &mut [u8]) -> Filled
+#[tactic(auto, unfolding(crate::specs::Printed::refusal_text))]
+pub fn put_refusal(number: u8, place: usize, out: &mut [u8]) -> Option<usize>
     ensures { Wrote out.old out.new 0 (refusal_text number place) result }
 {
     let numbered = then_decimal(put_all(out, 0, b"refused "), number as usize, out);
@@ -101,54 +86,23 @@ pub fn put_refusal(number: u8, place: usize, out: &mut [u8]) -> Filled
     then_all(placed, b"\n", out)
 }
 
-// What a permit grants; any other answer grants nothing.
-fn grant_of(answer: Answer) -> Granted
-    ensures { result ≡ grant_beside answer }
-{
-    match answer {
-        Answer::Permit(grant) => grant,
-        Answer::Password(grant) => grant,
-        _ => Granted {
-            line: 0,
-            path: 0,
-            uid: 0,
-            euid: 0,
-            gid: 0,
-            egid: 0,
-            auth: false,
-            timeout: Timeout::Unset,
-            nargs: Span::Nothing,
-        },
-    }
-}
-
-// The line or the place beside any other answer.
-fn place_of(answer: Answer) -> usize
-    ensures { result ≡ number_beside answer }
-{
-    match answer {
-        Answer::StoppedByNargs(line) => line,
-        Answer::StoppedByArgument(line) => line,
-        Answer::StoppedByPath(line) => line,
-        Answer::LongTable => WholeText::BYTES,
-        Answer::RefusedByte(place) => place,
-        Answer::CutShort(place) => place,
-        Answer::RefusedLine(_, place) => place,
-        _ => 0,
-    }
-}
-
-// The line of an answer at the buffer's beginning: its number chooses the word and what is written beside it.
-pub fn put_answer(answer: Answer, buffer: &[u8], out: &mut [u8]) -> Filled
+// The line of an answer at the buffer's beginning. None: it does not fit.
+#[tactic(auto, unfolding(answer::specs::Answer::told_of, crate::specs::Printed::printed, crate::specs::Printed::stop_text))]
+pub fn put_answer(answer: Answer, buffer: &[u8], out: &mut [u8]) -> Option<usize>
     ensures { Wrote out.old out.new 0 (printed (told_of answer buffer.now)) result }
 {
-    let number = number_of(answer);
-    match number {
-        0 => put_grant(b"permit ", grant_of(answer), buffer, out),
-        1 => put_grant(b"password ", grant_of(answer), buffer, out),
-        2 => put_all(out, 0, b"none\n"),
-        3..=5 => put_stop(number, place_of(answer), out),
-        10..=18 => put_refusal(number, place_of(answer), out),
-        _ => Filled::Full,
+    match answer {
+        Answer::Permit(grant) => put_grant(b"permit ", grant, buffer, out),
+        Answer::Password(grant) => put_grant(b"password ", grant, buffer, out),
+        Answer::NoEntry => put_all(out, 0, b"none\n"),
+        Answer::StoppedByNargs(line) => put_stop(line, b" nargs\n", out),
+        Answer::StoppedByArgument(line) => put_stop(line, b" arg\n", out),
+        Answer::StoppedByPath(line) => put_stop(line, b" path\n", out),
+        Answer::MalformedQuestion => put_refusal(10, 0, out),
+        Answer::LongTable => put_refusal(11, WholeText::BYTES, out),
+        Answer::RefusedByte(place) => put_refusal(12, place, out),
+        Answer::CutShort(place) => put_refusal(13, place, out),
+        Answer::RefusedLine(cause, place) => put_refusal(cause.number(), place, out),
+        Answer::SmallBuffer => put_refusal(17, 0, out),
     }
 }

@@ -1,167 +1,105 @@
 // What a question line asks.
-ghost use Rattle.std.specs.Prelude.{◌+◌, ◌-◌, ◌≤◌, ◌<◌, ◌≡◌, cond, eqb, pos, neg_ℤ, length, drop};
+ghost use Rattle.std.specs.Prelude.{◌+◌, ◌-◌, ◌≤◌, ◌<◌, ◌≡◌, length, drop};
 ghost use mathlib.Core.List.{flat_map};
 ghost use Rattle.text.specs.Lists.{split_at};
 ghost use Rattle.text.specs.Contract.{lead, Wrote};
 ghost use Rattle.answer.specs.Meaning.{ended};
-ghost use Rattle.console.specs.QuestionLine.{line_limit, most_age, most_age_below, number_in, minute_in, age_from, age_in, groups_in, arguments_in, asked_from, asked_in};
-ghost use Rattle.console.specs.Contract.{capped_at, magnitude_limit, magnitude_read, minute_read, age_read, EndsOf, arguments_behind, Reads};
+ghost use Rattle.console.specs.QuestionLine.{line_limit, number_in, minute_in, age_in, groups_in, arguments_in, asked_from, asked_in};
+ghost use Rattle.console.specs.Contract.{age_held, capped_at, magnitude_limit, EndsOf, arguments_behind, Reads};
 
-use question::{Age, LastAuthentication, WeekMinute};
-use text::buffer::{Filled, put};
+use question::{Age, WeekMinute};
+use text::buffer::put;
 use text::class::is_digit;
-use text::slice::{Found, byte_from, equal, find_byte, starts_with};
+use text::slice::byte_from;
 
-// A number of any length, held at a limit above all ages.
+// A number in decimal digits.
 #[derive(Drop)]
-enum Magnitude {
-    Value(usize),
-    Malformed,
-}
+pub struct Magnitude;
 
 impl Magnitude {
-    // The most that is told; a number that is greater is told as this one.
-    const LIMIT: usize = 2147483649;
-    // The greatest age, and the size of the least.
-    const AGE: usize = 2147483647;
-
-    const AGE_BELOW: usize = 2147483648;
+    // The most that is told, which is no age on either side of zero; a number that is greater is told as this one.
+    const LIMIT: u64 = 2147483649;
 }
 
 // One or more digits.
-fn read_magnitude(s: &[u8]) -> Magnitude
-    ensures { magnitude_read result ≡ capped_at magnitude_limit (number_in s.now) }
+fn read_magnitude(s: &[u8]) -> Option<u64>
+    ensures { result ≡ capped_at magnitude_limit (number_in s.now) }
 {
-    if s.len() == 0 {
-        return Magnitude::Malformed;
+    if s.is_empty() {
+        return None;
     }
     let mut v = 0;
-    let mut i = 0;
-    while i < s.len() {
-        let b = s[i];
+    for &b in s {
         if !is_digit(b) {
-            return Magnitude::Malformed;
+            return None;
         }
-        v = text::number::at_most(v * 10 + (b - b'0') as usize, Magnitude::LIMIT);
-        i += 1;
+        v = (v * 10 + u64::from(b - b'0')).min(Magnitude::LIMIT);
     }
-    Magnitude::Value(v)
-}
-
-// A minute of the week, if it is one.
-#[derive(Drop)]
-enum MinuteRead {
-    Minute(WeekMinute),
-    Malformed,
+    Some(v)
 }
 
 // MINUTE: one or more digits.
-fn read_minute(s: &[u8]) -> MinuteRead
-    ensures { minute_read result ≡ minute_in s.now }
+fn read_minute(s: &[u8]) -> Option<WeekMinute>
+    ensures { result ≡ minute_in s.now }
 {
-    match read_magnitude(s) {
-        Magnitude::Malformed => MinuteRead::Malformed,
-        Magnitude::Value(v) => {
-            if v < WeekMinute::LIMIT as usize {
-                return MinuteRead::Minute(WeekMinute(v as u16));
-            }
-            MinuteRead::Malformed
-        }
+    let v = read_magnitude(s)?;
+    if v >= WeekMinute::LIMIT as u64 {
+        return None;
     }
+    Some(WeekMinute(v as u16))
 }
 
-// An age, or "never", if it is one.
-#[derive(Drop)]
-enum AgeRead {
-    Last(LastAuthentication),
-    Malformed,
-}
-
-// A number with its sign.
-fn signed(n: usize, below: bool) -> i32
-    requires { n ≤ cond below most_age_below most_age }
-    ensures { result ≡ cond below (neg_ℤ (pos n)) (pos n) }
+// So many minutes as an age, if 32 bits hold them.
+fn age_of(minutes: i64) -> Option<Option<Age>>
+    ensures { result ≡ age_held minutes }
 {
-    if below {
-        if n == 0 {
-            return 0;
-        }
-        return -1 - ((n - 1) as i32);
-    }
-    n as i32
-}
-
-// The digits of an age, from 0 to most.
-fn read_minutes(s: &[u8], most: usize, below: bool) -> AgeRead
-    requires { most ≡ cond below most_age_below most_age }
-    ensures { age_read result ≡ age_from (λ n. cond below (neg_ℤ (pos n)) (pos n)) most (number_in s.now) }
-{
-    match read_magnitude(s) {
-        Magnitude::Malformed => AgeRead::Malformed,
-        Magnitude::Value(v) => {
-            if v > most {
-                return AgeRead::Malformed;
-            }
-            AgeRead::Last(LastAuthentication::Minutes(Age(signed(v, below))))
-        }
-    }
+    Some(Some(Age(i32::try_from(minutes).ok()?)))
 }
 
 // AGE: `-` for never, or digits after an optional `-`.
-fn read_age(s: &[u8]) -> AgeRead
-    ensures { age_read result ≡ age_in s.now }
+fn read_age(s: &[u8]) -> Option<Option<Age>>
+    ensures { result ≡ age_in s.now }
 {
-    if equal(s, b"-") {
-        return AgeRead::Last(LastAuthentication::Never);
+    if s == b"-".as_slice() {
+        return Some(None);
     }
-    if starts_with(s, b"-") {
-        return read_minutes(&s[1..], Magnitude::AGE_BELOW, true);
+    match s.strip_prefix(b"-") {
+        Some(digits) => age_of(-(read_magnitude(digits)? as i64)),
+        None => age_of(read_magnitude(s)? as i64),
     }
-    read_minutes(s, Magnitude::AGE, false)
-}
-
-// The byte, or a zero in place of c.
-fn end_or_byte(c: u8, b: u8) -> u8
-    ensures { result ≡ cond (eqb b c) 0 b }
-{
-    if b == c { 0 } else { b }
 }
 
 // The parts between the bytes c, each ended by a zero byte, from a place of the buffer on.
-fn put_parts(s: &[u8], c: u8, out: &mut [u8], n: usize) -> Filled
+fn put_parts(s: &[u8], c: u8, out: &mut [u8], n: usize) -> Option<usize>
     ensures { Wrote out.old out.new n (flat_map ended (split_at c s.now)) result }
 {
     let mut m = n;
-    let mut i = 0;
-    while i < s.len() {
-        let Filled::Done(k) = put(out, m, end_or_byte(c, s[i])) else {
-            return Filled::Full;
-        };
-        m = k;
-        i += 1;
+    for &b in s {
+        let byte = if b == c { 0 } else { b };
+        m = put(out, m, byte)?;
     }
     put(out, m, 0)
 }
 
 // GROUPS at the buffer's beginning: none for `-`, else the names between commas.
-pub fn put_groups(s: &[u8], out: &mut [u8]) -> Filled
+pub fn put_groups(s: &[u8], out: &mut [u8]) -> Option<usize>
     ensures { Wrote out.old out.new 0 (groups_in s.now) result }
 {
-    if equal(s, b"-") {
-        return Filled::Done(0);
+    if s == b"-".as_slice() {
+        return Some(0);
     }
     put_parts(s, b',', out, 0)
 }
 
 // The arguments, which begin behind the space at `end`; none where the line ends there.
-fn put_arguments(line: &[u8], end: usize, out: &mut [u8], n: usize) -> Filled
+fn put_arguments(line: &[u8], end: usize, out: &mut [u8], n: usize) -> Option<usize>
     requires { n ≤ length out.old }
     ensures { Wrote out.old out.new n (arguments_in (arguments_behind end line.now)) result }
 {
     if end < line.len() {
         return put_parts(&line[end + 1..], b' ', out, n);
     }
-    Filled::Done(n)
+    Some(n)
 }
 
 // Ends of the first six pieces of a line; where there are fewer, the ends behind the last lie past the line's end.
@@ -212,18 +150,14 @@ pub struct Pieces {
     pub list: usize,
     pub host: usize,
     pub minute: WeekMinute,
-    pub last: LastAuthentication,
+    pub last: Option<Age>,
     // Where the groups and then the arguments end in the scratch, as zero-ended strings.
     pub groups: usize,
     pub args: usize,
 }
 
-// A question line that was read.
 #[derive(Drop)]
-pub enum QuestionLine {
-    Asks(Pieces),
-    Malformed,
-}
+pub struct QuestionLine;
 
 impl QuestionLine {
     // The most bytes of one.
@@ -231,7 +165,7 @@ impl QuestionLine {
 }
 
 // The pieces of a line that has at least six.
-fn read_pieces(line: &[u8], ends: Ends, scratch: &mut [u8]) -> QuestionLine
+fn read_pieces(line: &[u8], ends: Ends, scratch: &mut [u8]) -> Option<Pieces>
     requires { (length line.now ≤ line_limit) × (length scratch.old ≡ line_limit) × EndsOf line.now ends × (ends.minute < length line.now) }
     ensures { Reads line.now (asked_from (split_at 32 line.now)) scratch.new result }
 {
@@ -241,19 +175,11 @@ fn read_pieces(line: &[u8], ends: Ends, scratch: &mut [u8]) -> QuestionLine
     let host = ends.host;
     let minute_end = ends.minute;
     let age_end = ends.age;
-    let MinuteRead::Minute(minute) = read_minute(&line[host + 1..minute_end]) else {
-        return QuestionLine::Malformed;
-    };
-    let AgeRead::Last(last) = read_age(&line[minute_end + 1..age_end]) else {
-        return QuestionLine::Malformed;
-    };
-    let Filled::Done(groups) = put_groups(&line[user + 1..list], scratch) else {
-        return QuestionLine::Malformed;
-    };
-    let Filled::Done(args) = put_arguments(line, age_end, scratch, groups) else {
-        return QuestionLine::Malformed;
-    };
-    QuestionLine::Asks(Pieces {
+    let minute = read_minute(&line[host + 1..minute_end])?;
+    let last = read_age(&line[minute_end + 1..age_end])?;
+    let groups = put_groups(&line[user + 1..list], scratch)?;
+    let args = put_arguments(line, age_end, scratch, groups)?;
+    Some(Pieces {
         command,
         user,
         list,
@@ -266,19 +192,15 @@ fn read_pieces(line: &[u8], ends: Ends, scratch: &mut [u8]) -> QuestionLine
 }
 
 // What a line, without its newline, asks. The groups and the arguments are put into the scratch.
-pub fn read_question_line(line: &[u8], scratch: &mut [u8; QuestionLine::BYTES]) -> QuestionLine
+pub fn read_question_line(line: &[u8], scratch: &mut [u8; QuestionLine::BYTES]) -> Option<Pieces>
     ensures { Reads line.now (asked_in line.now) scratch.new result }
 {
-    let strings = &mut scratch[..];
-    if line.len() > QuestionLine::BYTES {
-        return QuestionLine::Malformed;
-    }
-    if let Found::At(_) = find_byte(line, 0) {
-        return QuestionLine::Malformed;
+    if line.len() > QuestionLine::BYTES || line.contains(&0) {
+        return None;
     }
     let ends = piece_ends(line);
     if ends.minute >= line.len() {
-        return QuestionLine::Malformed;
+        return None;
     }
-    read_pieces(line, ends, strings)
+    read_pieces(line, ends, scratch)
 }

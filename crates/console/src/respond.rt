@@ -5,18 +5,22 @@ use super::print::put_answer;
 use super::question_line::{QuestionLine, read_question_line};
 use answer::Answer;
 use answer::call::answer;
-use question::{LastAuthentication, WeekMinute};
+use question::{Age, WeekMinute};
+use record::bytes_recorded;
 use record::decision::record_answer;
-use text::buffer::Filled;
 
-// How a response was written.
-#[derive(Drop)]
-pub enum Response {
-    // How many bytes of the line, the newline counted, and how many of the record: eight, or none.
-    Written(usize, usize),
-    // The lent buffer has under 2,048 bytes; nothing was written.
-    SmallBuffer,
+// How much of a response was written.
+#[derive(Clone, Copy)]
+pub struct Written {
+    // How many bytes of the line, the newline counted.
+    pub line: usize,
+    // How many bytes of the record: eight, or none.
+    pub record: usize,
 }
+
+// The printed line for a question line.
+#[derive(Drop)]
+pub struct Response;
 
 impl Response {
     // The least bytes of the lent buffer.
@@ -28,7 +32,7 @@ impl Response {
 pub struct Answered {
     pub answer: Answer,
     pub minute: WeekMinute,
-    pub last: LastAuthentication,
+    pub last: Option<Age>,
 }
 
 // The answer to a question line, with its strings in the lent buffer.
@@ -36,11 +40,11 @@ pub fn answer_line(table: &[u8], line: &[u8], buffer: &mut [u8]) -> Answered
     ensures { Answers table.now line.now buffer.old buffer.new result }
 {
     let mut scratch = [0u8; QuestionLine::BYTES];
-    let QuestionLine::Asks(pieces) = read_question_line(line, &mut scratch) else {
+    let Some(pieces) = read_question_line(line, &mut scratch) else {
         return Answered {
             answer: Answer::MalformedQuestion,
             minute: WeekMinute(0),
-            last: LastAuthentication::Never,
+            last: None,
         };
     };
     let strings = &scratch[..];
@@ -71,23 +75,22 @@ pub fn answer_line(table: &[u8], line: &[u8], buffer: &mut [u8]) -> Answered
 }
 
 // One question line, without its newline, is answered by one printed line; eight bytes that are lent for the log get the
-// record of the answer.
-pub fn respond(table: &[u8], line: &[u8], out: &mut [u8], log: &mut [u8]) -> Response
+// record of the answer. None: the lent buffer has under 2,048 bytes, and nothing was written.
+pub fn respond(table: &[u8], line: &[u8], out: &mut [u8], log: &mut [u8]) -> Option<Written>
     ensures { Responds table.now line.now out.old out.new log.old log.new result }
 {
     if out.len() < Response::BUFFER {
-        return Response::SmallBuffer;
+        return None;
     }
     let mut buffer = [0u8; Answer::BUFFER];
     let answered = answer_line(table, line, &mut buffer);
     let told = answered.answer;
     let minute = answered.minute;
     let last = answered.last;
-    match put_answer(told, &buffer, out) {
-        Filled::Full => Response::SmallBuffer,
-        Filled::Done(n) => {
-            let recorded = record_answer(told, minute, last, log);
-            Response::Written(n, recorded.bytes())
-        }
-    }
+    let written = put_answer(told, &buffer, out)?;
+    let recorded = record_answer(told, minute, last, log);
+    Some(Written {
+        line: written,
+        record: bytes_recorded(recorded),
+    })
 }

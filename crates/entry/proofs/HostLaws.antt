@@ -1,8 +1,8 @@
 -- An entry in two scopes that give each of its fields the same text. Assumes nothing.
+use Rattle.std.specs.Prelude.{Result}
 use mathlib.Core.Path.{◌≡◌, refl}
 use mathlib.Core.List.{List, [], ◌∷◌}
 use Prim.Native.Nat.{ℕ}
-use Rattle.fault.specs.Fault.{Reading}
 use Rattle.fault.specs.declared.Cause.{Cause}
 use Rattle.fault.proofs.Readings.{Each}
 use Rattle.fault.proofs.Alike.{then_alike}
@@ -17,7 +17,7 @@ module _ (s t : Scope) where
   abbrev pub SameTexts : List (List ℕ) → Type 0
   SameTexts fs = Each (λ f. field_text s f ≡ field_text t f) fs
 
-  pub field_alike : {A : Type 0} (r : List ℕ → Reading Cause A) (f : List ℕ) → field_text s f ≡ field_text t f → field_as s r f ≡ field_as t r f
+  pub field_alike : {A : Type 0} (r : List ℕ → Result A Cause) (f : List ℕ) → field_text s f ≡ field_text t f → field_as s r f ≡ field_as t r f
   field_alike r f e = rw e
 
   fields_alike : (judge : Judge) (p : Position) (fs : List (List ℕ)) → SameTexts fs → fields_from judge s p fs ≡ fields_from judge t p fs

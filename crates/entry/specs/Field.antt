@@ -1,13 +1,10 @@
 -- One field of an entry, from its text and by where it stands (01, "Entries" and "Options").
-use Rattle.std.specs.Prelude.{ℕ, ◌+◌, Bool, true, false, not, cond, ◌&&◌, List, [], ◌∷◌, ◌++◌, drop, take}
-use Rattle.std.proofs.Math.Option.{Option, none, some}
+use Rattle.std.specs.List.{list_any}
+use Rattle.std.specs.Prelude.{ℕ, ◌+◌, Bool, true, false, not, cond, ◌&&◌, List, [], ◌∷◌, ◌++◌, drop, take, Err, None, Ok, Option, Result, Some}
 use Rattle.text.specs.Bytes.{byte}
 use Rattle.text.specs.Class.{blank}
-use Rattle.text.specs.Lists.{any}
 use Rattle.text.specs.Slice.{head_is, find_pair}
-use Rattle.text.specs.declared.slice.Found.{Found}
-use Rattle.text.specs.declared.slice.Found.TheVariants.{At, Nothing}
-use Rattle.fault.specs.Fault.{Reading, fault, value, and_then, require}
+use Rattle.fault.specs.Fault.{and_then, require}
 use Rattle.fault.specs.declared.Cause.{Cause}
 use Rattle.fault.specs.declared.Cause.TheVariants.{LatePair, Path}
 use Rattle.pattern.specs.declared.Syntax.TheVariants.{Plain}
@@ -66,49 +63,49 @@ condition_part group xs = entry [] xs [] []
 condition_part time xs = entry [] [] xs []
 
 -- "FullPath begins with `/` and has no blank"
-unfoldable pub full_path : List ℕ → Reading Cause (List ℕ)
-full_path p = require (head_is (byte "/") p && not (any blank p)) Path (value p)
+unfoldable pub full_path : List ℕ → Result (List ℕ) Cause
+full_path p = require (head_is (byte "/") p && not (list_any blank p)) Path (Ok p)
 
 -- whether a search found a place
-abbrev pub found : Found → Bool
-found (At i) = true
-found Nothing = false
+abbrev pub found : Option ℕ → Bool
+found (Some i) = true
+found None = false
 
 -- `::` stands in the text
 unfoldable pub has_pair : List ℕ → Bool
 has_pair t = found (find_pair (byte ":") (byte ":") 0 t)
 
 -- "`CmdPat::FullPath` fields, parted at the first `::`"
-abbrev pub pair_at : List ℕ → Found → Reading Cause FieldRead
-pair_at t Nothing = fault LatePair
-pair_at t (At i) =
+abbrev pub pair_at : List ℕ → Option ℕ → Result FieldRead Cause
+pair_at t None = Err LatePair
+pair_at t (Some i) =
     and_then (expanded Plain (take i t)) (λ es.
     and_then (full_path (drop (i + 2) t)) (λ p.
-    value (field_read (a_pair es p) pairs)))
+    Ok (field_read (a_pair es p) pairs)))
 
 -- a field that is a pair
-unfoldable pub pair_of : List ℕ → Reading Cause FieldRead
+unfoldable pub pair_of : List ℕ → Result FieldRead Cause
 pair_of t = pair_at t (find_pair (byte ":") (byte ":") 0 t)
 
 -- CmdPat
-unfoldable pub command_of : List ℕ → Reading Cause FieldRead
-command_of t = and_then (expanded Plain t) (λ es. value (field_read no_field (second es)))
+unfoldable pub command_of : List ℕ → Result FieldRead Cause
+command_of t = and_then (expanded Plain t) (λ es. Ok (field_read no_field (second es)))
 
 -- FullPath behind CmdPat; "A later field with `::` is 14"
-unfoldable pub path_field : List (List ℕ) → List ℕ → Reading Cause FieldRead
-path_field es t = require (not (has_pair t)) LatePair (and_then (full_path t) (λ p. value (field_read (a_pair es p) rest)))
+unfoldable pub path_field : List (List ℕ) → List ℕ → Result FieldRead Cause
+path_field es t = require (not (has_pair t)) LatePair (and_then (full_path t) (λ p. Ok (field_read (a_pair es p) rest)))
 
 -- an option, in which `::` is the last fault that is looked for; or else a condition
-abbrev pub option_or : Judge → List ℕ → Option (Reading Cause Setting) → Reading Cause FieldRead
-option_or judge t (some r) = and_then r (λ s. require (not (has_pair t)) LatePair (value (field_read (entry [] [] [] (s ∷ [])) rest)))
-option_or judge t none = and_then (condition_of judge t) (λ c. value (field_read (condition_part c.sort c.alternatives) rest))
+abbrev pub option_or : Judge → List ℕ → Option (Result Setting Cause) → Result FieldRead Cause
+option_or judge t (Some r) = and_then r (λ s. require (not (has_pair t)) LatePair (Ok (field_read (entry [] [] [] (s ∷ [])) rest)))
+option_or judge t None = and_then (condition_of judge t) (λ c. Ok (field_read (condition_part c.sort c.alternatives) rest))
 
 -- a field behind the path or the pairs: "options" or "conditions"
-unfoldable pub other_of : Judge → List ℕ → Reading Cause FieldRead
+unfoldable pub other_of : Judge → List ℕ → Result FieldRead Cause
 other_of judge t = option_or judge t (option_of false t)
 
 -- "`CmdPat FullPath` and the other fields, or one or more leading `CmdPat::FullPath` fields": as long as all fields so far hold `::`, a field with `::` is a pair
-unfoldable pub field_of : Judge → Position → List ℕ → Reading Cause FieldRead
+unfoldable pub field_of : Judge → Position → List ℕ → Result FieldRead Cause
 field_of judge first t = cond (has_pair t) (pair_of t) (command_of t)
 field_of judge (second es) t = path_field es t
 field_of judge pairs t = cond (has_pair t) (pair_of t) (other_of judge t)

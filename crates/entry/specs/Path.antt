@@ -1,6 +1,5 @@
 -- The path of an entry for a command (01, "Entries").
-use Rattle.std.specs.Prelude.{ℕ, cond, List, [], ◌∷◌, ◌++◌}
-use Rattle.std.proofs.Math.Option.{Option, none, some}
+use Rattle.std.specs.Prelude.{ℕ, cond, List, [], ◌∷◌, ◌++◌, None, Option, Some}
 use Rattle.text.specs.Bytes.{is}
 use Rattle.matching.specs.Whole.{matches_some}
 use Rattle.entry.specs.Field.{Pair}
@@ -16,5 +15,5 @@ starred command (b ∷ p) = cond (is "*" b) command (b ∷ []) ++ starred comman
 
 -- "The leftmost pair whose pattern matches the whole command gives the path"
 unfoldable pub path_for : List ℕ → List Pair → Option (List ℕ)
-path_for command [] = none
-path_for command (p ∷ ps) = cond (matches_some p.expansions command) (some (starred command p.path)) (path_for command ps)
+path_for command [] = None
+path_for command (p ∷ ps) = cond (matches_some p.expansions command) (Some (starred command p.path)) (path_for command ps)

@@ -1,6 +1,5 @@
 -- What the deciding entry answers: nargs, argument patterns, path length, password, in that order (01, "Options").
-use Rattle.std.specs.Prelude.{ℕ, not, cond, List, ltb, length}
-use Rattle.std.proofs.Math.Option.{Option, none, some}
+use Rattle.std.specs.Prelude.{ℕ, not, cond, List, ltb, length, None, Option, Some}
 use Rattle.question.specs.Question.{Question}
 use Rattle.question.specs.Password.{password_needed}
 use Rattle.options.specs.Options.{Options, over, auth_or, timeout_or, nargs_allow}
@@ -29,11 +28,11 @@ verdict_on q o ps path =
 
 -- "Local overrides global"; argument patterns in force globally and the entry's own add up
 abbrev pub verdict_if : Question → Options → List ArgumentPattern → Entry → Option (List ℕ) → Option Verdict
-verdict_if q o ps e none = none
-verdict_if q o ps e (some path) =
+verdict_if q o ps e None = None
+verdict_if q o ps e (Some path) =
     cond (conditions_accept q.user e)
-    (some (verdict_on q (over (options_of e.settings) o) (in_force ps (arguments_of e.settings)) path))
-    none
+    (Some (verdict_on q (over (options_of e.settings) o) (in_force ps (arguments_of e.settings)) path))
+    None
 
 -- the entry's verdict where its command, users and times all accept; options and argument patterns in force go before
 unfoldable pub verdict_of : Question → Options → List ArgumentPattern → Entry → Option Verdict

@@ -7,7 +7,7 @@ ghost use Rattle.options.specs.Contract.{failures as failuresOf};
 ghost use Rattle.entry.specs.Contract.{settings_in, Sums, AddsSettings};
 
 use options::arguments::Failures;
-use options::read::{OptionRead, read_option, value_of};
+use options::read::{read_option, value_of};
 use options::set::OptionSet;
 
 // What the settings so far come to.
@@ -32,18 +32,13 @@ impl Own {
     pub fn add(self, text: &[u8], args: &[u8]) -> Self
         ensures { AddsSettings (strings_in args.now) text.now (settings_in (option_of false text.now)) self result }
     {
-        match read_option(text, false) {
-            OptionRead::Faulty(_) => self,
-            OptionRead::NotOption => self,
-            OptionRead::Set(setting) => {
-                let options = self.options;
-                let failures = self.failures;
-                let value = value_of(text);
-                Own {
-                    options: options.add(value, setting),
-                    failures: failures.add(value, setting, args),
-                }
-            }
+        let Ok(Some(setting)) = read_option(text, false) else {
+            return self;
+        };
+        let value = value_of(text);
+        Own {
+            options: self.options.add(value, setting),
+            failures: self.failures.add(value, setting, args),
         }
     }
 }

@@ -2,7 +2,7 @@
 ghost use Rattle.text.specs.Contract.{Wrote};
 ghost use Rattle.entry.specs.Path.{starred};
 
-use text::buffer::{Filled, put, put_all};
+use text::buffer::{put, put_all};
 
 #[derive(Drop)]
 pub struct Path;
@@ -16,23 +16,16 @@ impl Path {
 const STAR: u8 = b'*';
 
 // The path with each `*` replaced by the command, once, from the buffer's beginning on, or that it does not fit.
-pub fn put_path(path: &[u8], command: &[u8], out: &mut [u8]) -> Filled
+pub fn put_path(path: &[u8], command: &[u8], out: &mut [u8]) -> Option<usize>
     ensures { Wrote out.old out.new 0 (starred command.now path.now) result }
 {
     let mut m = 0;
-    let mut i = 0;
-    while i < path.len() {
-        let b = path[i];
-        let p = if b == STAR {
-            put_all(out, m, command)
+    for b in path {
+        m = if *b == STAR {
+            put_all(out, m, command)?
         } else {
-            put(out, m, b)
+            put(out, m, *b)?
         };
-        let Filled::Done(k) = p else {
-            return Filled::Full;
-        };
-        m = k;
-        i += 1;
     }
-    Filled::Done(m)
+    Some(m)
 }

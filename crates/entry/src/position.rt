@@ -4,10 +4,10 @@ ghost use Rattle.text.specs.Bytes.{byte};
 ghost use Rattle.text.specs.Slice.{find_pair};
 ghost use Rattle.entry.specs.Contract.{kind_by, behind, is_other};
 
-use text::slice::{Found, find_pair};
+use text::slice::find_pair;
 
 // Where a field stands.
-#[derive(Clone, Copy)]
+#[derive(Clone, Copy, PartialEq, Eq)]
 pub enum Position {
     First,
     // Behind CmdPat.
@@ -19,7 +19,7 @@ pub enum Position {
 }
 
 // What a field is.
-#[derive(Clone, Copy)]
+#[derive(Clone, Copy, PartialEq, Eq)]
 pub enum FieldKind {
     // A pair with its first `::` at this byte.
     Pair(usize),
@@ -38,13 +38,13 @@ impl Position {
     {
         match self {
             Position::First => match find_pair(text, b':', b':') {
-                Found::At(i) => FieldKind::Pair(i),
-                Found::Nothing => FieldKind::Command,
+                Some(i) => FieldKind::Pair(i),
+                None => FieldKind::Command,
             },
             Position::Second => FieldKind::Path,
             Position::Pairs => match find_pair(text, b':', b':') {
-                Found::At(i) => FieldKind::Pair(i),
-                Found::Nothing => FieldKind::Other,
+                Some(i) => FieldKind::Pair(i),
+                None => FieldKind::Other,
             },
             Position::Rest => FieldKind::Other,
         }
@@ -68,11 +68,6 @@ impl FieldKind {
     pub fn is_other(self) -> bool
         ensures { result ≡ is_other self }
     {
-        match self {
-            FieldKind::Pair(_) => false,
-            FieldKind::Command => false,
-            FieldKind::Path => false,
-            FieldKind::Other => true,
-        }
+        matches!(self, FieldKind::Other)
     }
 }

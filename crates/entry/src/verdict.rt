@@ -4,10 +4,10 @@ ghost use Rattle.entry.specs.Contract.{GivesVerdict};
 
 use options::arguments::Failures;
 use options::set::OptionSet;
-use question::LastAuthentication;
-use text::buffer::Filled;
+use options::span::nargs_allow;
+use question::Age;
 
-#[derive(Drop)]
+#[derive(Clone, Copy, PartialEq, Eq)]
 pub enum Verdict {
     Nargs,
     Argument,
@@ -21,25 +21,22 @@ pub fn verdict_of(
     options: OptionSet,
     failures: Failures,
     arguments: usize,
-    path: Filled,
-    last: LastAuthentication,
+    path: Option<usize>,
+    last: Option<Age>,
 ) -> Verdict
     ensures { GivesVerdict (options_in options) failures.at arguments path last result }
 {
-    let nargs = options.nargs();
-    if !nargs.allows(arguments) {
+    if !nargs_allow(options.nargs(), arguments) {
         return Verdict::Nargs;
     }
     if failures.some() {
         return Verdict::Argument;
     }
-    match path {
-        Filled::Full => Verdict::Path,
-        Filled::Done(_) => {
-            if options.needs_password(last) {
-                return Verdict::Password;
-            }
-            Verdict::Permit
-        }
+    if path.is_none() {
+        return Verdict::Path;
     }
+    if options.needs_password(last) {
+        return Verdict::Password;
+    }
+    Verdict::Permit
 }

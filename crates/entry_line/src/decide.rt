@@ -7,7 +7,7 @@ ghost use Rattle.variables.specs.Contract.{scope_in};
 ghost use Rattle.options.specs.Contract.{options_in};
 ghost use Rattle.condition.specs.Condition.{judge_of};
 ghost use Rattle.entry.specs.Path.{starred};
-ghost use Rattle.entry_line.specs.Contract.{PutsPath, DecidesEntry, size_told};
+ghost use Rattle.entry_line.specs.Contract.{PutsPath, DecidesEntry};
 
 use super::own::own_settings;
 use entry::path::{Path, put_path};
@@ -16,9 +16,7 @@ use line::fields::field;
 use options::arguments::Failures;
 use options::set::OptionSet;
 use question::strings::string_count;
-use question::{LastAuthentication, WeekMinute};
-use text::buffer::Filled;
-use text::number::at_most;
+use question::{Age, WeekMinute};
 use variables::Variables;
 use variables::field::{FieldText, field_text};
 
@@ -30,21 +28,11 @@ pub struct Decided {
     pub options: OptionSet,
 }
 
-// The bytes of a path that fits.
-fn size_of(path: Filled) -> usize
-    ensures { result ≡ size_told path }
-{
-    match path {
-        Filled::Done(n) => n,
-        Filled::Full => 0,
-    }
-}
-
 // The path that stands in a text from a byte on, with the command put in.
-fn put_from(text: &[u8], at: usize, command: &[u8], path: &mut [u8]) -> Filled
+fn put_from(text: &[u8], at: usize, command: &[u8], path: &mut [u8]) -> Option<usize>
     ensures { Wrote path.old path.new 0 (starred command.now (drop at text.now)) result }
 {
-    let start = at_most(at, text.len());
+    let start = at.min(text.len());
     put_path(&text[start..], command, path)
 }
 
@@ -63,18 +51,17 @@ fn path_of<'a, 'b>(
     names: usize,
     scratch: &mut [u8; FieldText::BYTES],
     path: &mut [u8; Path::BYTES],
-) -> Filled
+) -> Option<usize>
     ensures { PutsPath
         (scope_in user.now host.now bytes.now sizes.now names)
         (fields_in text.now ends.now count)
         index at command.now path.old path.new result }
 {
     let written = field(text, ends, count, index);
-    let FieldText::Text(n) = field_text(bytes, sizes, names, user, host, written, scratch) else {
+    let Ok(n) = field_text(bytes, sizes, names, user, host, written, scratch) else {
         return put_from(written, at, command, path);
     };
-    let all = &scratch[..];
-    put_from(&all[..n], at, command, path)
+    put_from(&scratch[..n], at, command, path)
 }
 
 // The verdict on the entry that the fields make from one of them on, whose path stands in the text of one of them from a
@@ -93,7 +80,7 @@ pub fn decide<'a, 'b>(
     groups: &[u8],
     host: &[u8],
     minute: WeekMinute,
-    last: LastAuthentication,
+    last: Option<Age>,
     args: &[u8],
     bytes: &'b [u8; Variables::BYTES],
     sizes: &'b [usize; Variables::SIZES],
@@ -114,12 +101,10 @@ pub fn decide<'a, 'b>(
     let filled = path_of(
         text, ends, count, index, at, command, user, host, bytes, sizes, names, scratch, path,
     );
-    let settings = own.options;
-    let failing = own.failures;
-    let effective = settings.over(options);
+    let effective = own.options.over(options);
     Decided {
-        verdict: verdict_of(effective, failing, string_count(args), filled, last),
-        path: size_of(filled),
+        verdict: verdict_of(effective, own.failures, string_count(args), filled, last),
+        path: filled.unwrap_or(0),
         options: effective,
     }
 }

@@ -10,9 +10,8 @@ ghost use Rattle.entry_line.specs.Contract.{OwnSettings};
 use entry::own::Own;
 use entry::position::{FieldKind, Position};
 use line::fields::field;
-use line::scan::ScannedLine;
+use line::scan::ControlLine;
 use options::arguments::Failures;
-use text::number::at_most;
 use variables::Variables;
 use variables::field::{FieldText, field_text};
 
@@ -48,27 +47,17 @@ pub fn own_settings<'a, 'b>(
         (drop from (fields_in text.now ends.now count))
         (strings_in args.now) failures.at result }
 {
-    let most = at_most(count, ScannedLine::FIELDS);
+    let most = count.min(ControlLine::FIELDS);
     let mut own = Own::new(failures);
     let mut position = Position::First;
-    let mut i = from;
-    while i < most {
-        let FieldText::Text(n) = field_text(
-            bytes,
-            sizes,
-            names,
-            user,
-            host,
-            field(text, ends, count, i),
-            scratch,
-        ) else {
+    for i in from..most {
+        let written = field(text, ends, count, i);
+        let Ok(n) = field_text(bytes, sizes, names, user, host, written, scratch) else {
             return own;
         };
-        let all = &scratch[..];
-        let kind = position.kind(&all[..n]);
-        own = with_text(own, kind, &all[..n], args);
+        let kind = position.kind(&scratch[..n]);
+        own = with_text(own, kind, &scratch[..n], args);
         position = kind.next();
-        i += 1;
     }
     own
 }

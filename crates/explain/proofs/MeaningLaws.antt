@@ -1,4 +1,5 @@
--- What the definitions promise: one physical line, with the place in it, and nothing that a terminal would take for a command. Assumes nothing.
+-- What the definitions promise: one physical line, with the place in it, and nothing that a terminal would take for a command.
+use Rattle.std.specs.List.{list_all, list_any}
 use mathlib.Core.Path.{◌≡◌, refl, ap, ◌∙◌}
 use mathlib.Core.Bool.{Bool, true, false, not, cond}
 use mathlib.Core.List.{List, [], ◌∷◌, ◌++◌, map}
@@ -12,7 +13,7 @@ use lib.Seq.{take-suc, take-add, get_or-drop, drop-drop}
 use Rattle.text.specs.Bytes.{bytes}
 use Rattle.text.specs.Class.{class_of, blank, letter, digit, printable}
 use Rattle.text.specs.Contract.{lead}
-use Rattle.text.specs.Lists.{all, any, has}
+use Rattle.text.specs.Lists.{has}
 use Rattle.text.proofs.Laws.{part_length, both_of}
 use Rattle.text.proofs.Lists.{all_append, any_append}
 use Rattle.line.specs.Refused.{accepted}
@@ -27,7 +28,7 @@ has_append c xs ys e f = any_append (λ b. eqb b c) xs ys ∙ rw (e, f)
 
 -- no c stands in front of the first one
 lead_clear : (c : ℕ) (s : List ℕ) → has c (take (lead c s) s) ≡ false
-unfolding has any lead
+unfolding has lead
 lead_clear c [] = refl
 lead_clear c (b ∷ s) = go (eqb b c) refl (lead_clear c s)
   where
@@ -66,7 +67,7 @@ module _ (t : List ℕ) where
 
   -- no newline stands between the line's beginning and the place
   pub front_clear : (p : ℕ) → p ≤ length t → has 10 (line_front t p) ≡ false
-  unfolding line_front line_start has any
+  unfolding line_front line_start has
   front_clear zero h = refl
   front_clear (suc p) h = go (eqb (get_or t p 0) 10) refl (front_clear p (omega arith))
     where
@@ -111,13 +112,12 @@ caret_accepted b = go (eqb b 9) refl
     go false e = refl
 
 -- what holds of each byte that is shown holds of all
-all_shown : (holds : ℕ → Bool) (row : Row) → ((b : ℕ) → holds (shown_in row b) ≡ true) → (s : List ℕ) → all holds (map (shown_in row) s) ≡ true
-unfolding all
+all_shown : (holds : ℕ → Bool) (row : Row) → ((b : ℕ) → holds (shown_in row b) ≡ true) → (s : List ℕ) → list_all holds (map (shown_in row) s) ≡ true
 all_shown holds row h [] = refl
 all_shown holds row h (b ∷ s) = both_of (h b) (all_shown holds row h s)
 
 -- a name or a question, whatever its bytes are, is shown without a control byte
-pub name_clear : (name : List ℕ) → all (λ b. not (control b)) (shown_name name) ≡ true
+pub name_clear : (name : List ℕ) → list_all (λ b. not (control b)) (shown_name name) ≡ true
 unfolding shown_name shown_in
 name_clear name = all_shown (λ b. not (control b)) Name clear name
   where
@@ -129,8 +129,8 @@ name_clear name = all_shown (λ b. not (control b)) Name clear name
         go false e = rw e
 
 -- no byte of a table can move a terminal's cursor: all that is printed of it are tabs, newlines and 0x20 to 0x7E
-pub rows_accepted : (t : List ℕ) (p : ℕ) → all accepted (rows t p) ≡ true
-unfolding rows all accepted class_of blank letter digit printable
+pub rows_accepted : (t : List ℕ) (p : ℕ) → list_all accepted (rows t p) ≡ true
+unfolding rows accepted class_of blank letter digit printable
 rows_accepted t p =
     let l = map (shown_in Line) (physical_line t p) in
     let f = map (shown_in Caret) (line_front t p) in

@@ -1,54 +1,34 @@
--- The laws of the physical line of a place, step by step. Assumes nothing.
-use mathlib.Core.Path.{◌≡◌, refl, ◌∙◌}
-use mathlib.Core.List.{List, ◌∷◌}
-use Prim.Native.Nat.{ℕ, zero, suc, ◌+◌, ◌-◌, ◌≤◌, ◌<◌}
-use native.Mathlib.Omega.{arith}
-use borrow.Author.Tests.{eq-eqb, ne_eqb}
-use lib.ListN.{length, take, drop, get_or, length-take, drop_of_length-le}
+-- The laws of the physical line of a place.
+use Rattle.std.proofs.Common.{◌≡◌, ℕ, zero, suc, ◌+◌, ◌≤◌, ◌<◌, Bool, true, false, cond, List, length, take, get_or, refl, sym, ◌∙◌, arith, length-take}
+use lib.Dec.{eqb, ltb}
+use borrow.Author.Tests.{eq-eqb, ne_eqb, ltb-true, ltb-false}
 use lib.Seq.{get_or-take}
-use Rattle.text.specs.Bytes.{is}
-use Rattle.text.specs.Lists.{count}
-use Rattle.text.proofs.Laws.{next}
-use Rattle.explain.specs.Place.{line_number, line_start}
+use Rattle.explain.specs.Place.{line_start, NoNewline, LastNewline}
 
--- the newlines among the bytes from i up to the place
-abbrev pub newlines : List ℕ → ℕ → ℕ → ℕ
-newlines t p i = count (is "\n") (drop i (take p t))
-
-module _ (t : List ℕ) (p : ℕ) where
-  pub number_start : 1 + newlines t p 0 ≡ line_number t p
-  unfolding line_number
-  number_start = omega arith
-
-  module _ (i line : ℕ) (k : p ≤ length t) where
-    next_byte : i < p → drop i (take p t) ≡ get_or t i 0 ∷ drop (i + 1) (take p t)
-    next_byte h = let j : i < length (take p t) = omega (arith, length-take p t) in next (take p t) i j ∙ rw get_or-take
-
-    pub number_newline : i < p → get_or t i 0 ≡ 10 → line + 1 + newlines t p (i + 1) ≡ line + newlines t p i
-    unfolding count
-    number_newline h e = rw (next_byte h, eq-eqb _ _ e) (omega arith)
-
-    pub number_other : i < p → (get_or t i 0 ≡ 10 → ⊥) → line + newlines t p (i + 1) ≡ line + newlines t p i
-    unfolding count
-    number_other h e = rw (next_byte h, ne_eqb _ _ e)
-
-    pub number_end : p ≤ i → line ≡ line + newlines t p i
-    unfolding count
-    number_end h = let j : length (take p t) ≤ i = omega (arith, length-take p t) in rw (drop_of_length-le (take p t) j) (omega arith)
-
--- backwards from a place
 module _ (t : List ℕ) where
-  pub start_newline : (i : ℕ) → 0 < i → get_or t (i - 1) 0 ≡ 10 → i ≡ line_start t i
+  none_before : (p : ℕ) → ((k : ℕ) → k < p → get_or t k 0 ≡ 10 → ⊥) → line_start t p ≡ 0
   unfolding line_start
-  start_newline zero h e = absurd (omega arith)
-  start_newline (suc i) h e = let z : suc i - 1 ≡ i = omega arith in let q : get_or t i 0 ≡ 10 = rw z at e in rw (eq-eqb _ _ q)
+  none_before zero h = refl
+  none_before (suc p) h = rw (ne_eqb (get_or t p 0) 10 (h p (omega arith))) (none_before p (λ k l. h k (omega arith)))
 
-  pub start_other : (i : ℕ) → 0 < i → (get_or t (i - 1) 0 ≡ 10 → ⊥) → line_start t (i - 1) ≡ line_start t i
+  last_before : (p i : ℕ) → i < p → get_or t i 0 ≡ 10 → ((k : ℕ) → i < k → k < p → get_or t k 0 ≡ 10 → ⊥) → line_start t p ≡ suc i
   unfolding line_start
-  start_other zero h e = absurd (omega arith)
-  start_other (suc i) h e = let z : suc i - 1 ≡ i = omega arith in let q : get_or t i 0 ≡ 10 → ⊥ = rw z at e in rw (z, ne_eqb _ _ q)
+  last_before zero i l e h = absurd (omega arith)
+  last_before (suc p) i l e h = go (ltb i p) refl (λ m. last_before p i m e (λ k u v. h k u (omega arith)))
+    where
+      go : (x : Bool) → ltb i p ≡ x → (i < p → line_start t p ≡ suc i) → cond (eqb (get_or t p 0) 10) (suc p) (line_start t p) ≡ suc i
+      go true q rec = let m : i < p = ltb-true _ _ q in rw (ne_eqb (get_or t p 0) 10 (h p m (omega arith))) (rec m)
+      go false q rec = let m : p ≤ i = ltb-false _ _ q in let z : p ≡ i = omega arith in rw (z, eq-eqb (get_or t i 0) 10 e)
 
-  pub start_zero : (i : ℕ) → i ≤ 0 → i ≡ line_start t i
-  unfolding line_start
-  start_zero zero h = refl
-  start_zero (suc i) h = absurd (omega arith)
+  -- the same of the bytes in front of a place
+  at_front : (p k : ℕ) → k < p → get_or (take p t) k 0 ≡ get_or t k 0
+  at_front p k l = rw get_or-take
+
+  pub start_none : (p : ℕ) → p ≤ length t → NoNewline (take p t) → 0 ≡ line_start t p
+  start_none p b h = sym (none_before p (λ k l e. h k (omega (arith, length-take p t)) (at_front p k l ∙ e)))
+
+  pub start_some : (p i : ℕ) → p ≤ length t → LastNewline (take p t) i → (i + 1 ≡ line_start t p) × (i + 1 ≤ p)
+  start_some p i b h =
+      let l : i < p = omega (arith, length-take p t, h.inside) in
+      let e : line_start t p ≡ suc i = last_before p i l (sym (at_front p i l) ∙ h.newline) (λ k m n e. h.none k m (omega (arith, length-take p t)) (at_front p k n ∙ e)) in
+      (omega (arith, e), omega arith)

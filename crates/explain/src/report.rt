@@ -1,22 +1,17 @@
 // What is printed for a table that was asked a question.
 ghost use Rattle.std.specs.Prelude.{◌≤◌, length};
 ghost use Rattle.text.specs.Contract.{Wrote};
-ghost use Rattle.fault.specs.Fault.{number_of};
 ghost use Rattle.output.specs.Contract.{WroteAfter};
-ghost use Rattle.explain.specs.Words.{words_of};
 ghost use Rattle.explain.specs.Explained.{refused, position, refusal, refusal_at, place_in, shown_name, ok_for, explained};
 
 use super::place::{line_number, line_start};
 use super::row::{Row, then_row, then_rows};
-use super::words::then_words;
+use super::words::words_of;
 use answer::Answer;
-use fault::Cause;
 use output::behind::{then_all, then_decimal};
-use text::buffer::{Filled, put_all};
-use text::number::at_most;
 
 // The number of the line and the column, each behind a colon.
-fn then_position(filled: Filled, table: &[u8], place: usize, out: &mut [u8]) -> Filled
+fn then_position(filled: Option<usize>, table: &[u8], place: usize, out: &mut [u8]) -> Option<usize>
     requires { place ≤ length table.now }
     ensures { WroteAfter filled out.old out.new (position table.now place) result }
 {
@@ -27,15 +22,24 @@ fn then_position(filled: Filled, table: &[u8], place: usize, out: &mut [u8]) -> 
 }
 
 // The number of the refusal, with what stands round it.
-fn then_refused(filled: Filled, number: u8, out: &mut [u8]) -> Filled
+fn then_refused(filled: Option<usize>, number: u8, out: &mut [u8]) -> Option<usize>
     ensures { WroteAfter filled out.old out.new (refused number) result }
 {
-    let numbered = then_decimal(then_all(filled, b": refused ", out), number as usize, out);
+    let numbered = then_decimal(
+        then_all(filled, b": refused ", out),
+        usize::from(number),
+        out,
+    );
     then_all(numbered, b": ", out)
 }
 
 // A refusal that has no place in a line.
-pub fn then_refusal(filled: Filled, number: u8, words: &[u8], out: &mut [u8]) -> Filled
+pub fn then_refusal(
+    filled: Option<usize>,
+    number: u8,
+    words: &[u8],
+    out: &mut [u8],
+) -> Option<usize>
     ensures { WroteAfter filled out.old out.new (refusal number words.now) result }
 {
     let head = then_refused(filled, number, out);
@@ -44,42 +48,30 @@ pub fn then_refusal(filled: Filled, number: u8, words: &[u8], out: &mut [u8]) ->
 
 // A refusal with its place; one past the table's end is its end.
 pub fn then_refusal_at(
-    filled: Filled,
+    filled: Option<usize>,
     number: u8,
     words: &[u8],
     table: &[u8],
     place: usize,
     out: &mut [u8],
-) -> Filled
+) -> Option<usize>
     ensures { WroteAfter filled out.old out.new (refusal_at table.now (place_in table.now place) number words.now) result }
 {
-    let at = at_most(place, table.len());
+    let at = place.min(table.len());
     let placed = then_position(filled, table, at, out);
     let told = then_refusal(placed, number, words, out);
     then_rows(told, table, at, out)
 }
 
-// The refusal of a control line, by its cause.
-fn then_fault_at(filled: Filled, cause: Cause, table: &[u8], place: usize, out: &mut [u8]) -> Filled
-    requires { place ≤ length table.now }
-    ensures { WroteAfter filled out.old out.new (refusal_at table.now place (number_of cause) (words_of cause)) result }
-{
-    let placed = then_position(filled, table, place, out);
-    let head = then_refused(placed, cause.number(), out);
-    let told = then_all(then_words(head, cause, out), b"\n", out);
-    then_rows(told, table, place, out)
-}
-
 // The name of a file in front of a report, without a byte that would move a terminal's cursor.
-pub fn put_name(name: &[u8], out: &mut [u8]) -> Filled
+pub fn put_name(name: &[u8], out: &mut [u8]) -> Option<usize>
     ensures { Wrote out.old out.new 0 (shown_name name.now) result }
 {
-    let front = put_all(out, 0, b"");
-    then_row(front, Row::Name, name, out)
+    then_row(Some(0), Row::Name, name, out)
 }
 
 // That a table is ok for a question.
-fn then_ok(filled: Filled, question: &[u8], out: &mut [u8]) -> Filled
+fn then_ok(filled: Option<usize>, question: &[u8], out: &mut [u8]) -> Option<usize>
     ensures { WroteAfter filled out.old out.new (ok_for question.now) result }
 {
     let head = then_all(filled, b": ok for \"", out);
@@ -87,7 +79,13 @@ fn then_ok(filled: Filled, question: &[u8], out: &mut [u8]) -> Filled
 }
 
 // The name of the table, and that it is ok for this question or what is wrong with it; a place past the table's end is its end.
-pub fn explain(name: &[u8], question: &[u8], table: &[u8], answer: Answer, out: &mut [u8]) -> Filled
+pub fn explain(
+    name: &[u8],
+    question: &[u8],
+    table: &[u8],
+    answer: Answer,
+    out: &mut [u8],
+) -> Option<usize>
     ensures { Wrote out.old out.new 0 (explained name.now question.now table.now answer) result }
 {
     let named = put_name(name, out);
@@ -116,7 +114,7 @@ pub fn explain(name: &[u8], question: &[u8], table: &[u8], answer: Answer, out: 
             out,
         ),
         Answer::RefusedLine(cause, place) => {
-            then_fault_at(named, cause, table, at_most(place, table.len()), out)
+            then_refusal_at(named, cause.number(), words_of(cause), table, place, out)
         }
         Answer::SmallBuffer => then_all(named, b": refused 17 0\n", out),
         _ => then_ok(named, question, out),

@@ -5,7 +5,6 @@ ghost use Rattle.explain.specs.Explained.{shown_in, rows};
 
 use super::place::line_start;
 use output::behind::{then_all, then_byte};
-use text::buffer::Filled;
 use text::class::{Class, class_of};
 use text::slice::byte_from;
 
@@ -24,40 +23,34 @@ pub enum Row {
 }
 
 // The byte that is shown there for this one.
+#[tactic(auto, unfolding(crate::specs::Explained::shown_in, crate::specs::Explained::control, line::specs::Refused::accepted))]
 fn shown_in(row: Row, b: u8) -> u8
     ensures { result ≡ shown_in row b }
 {
     match row {
-        Row::Line => match class_of(b) {
-            Class::Refused => b'?',
-            _ => b,
+        Row::Line => if class_of(b) == Class::Refused {
+            b'?'
+        } else {
+            b
         },
-        Row::Caret => { if b == b'\t' { b } else { b' ' } }
-        Row::Name => {
-            if b < SPACE {
-                b'?'
-            } else {
-                if b == 127 { b'?' } else { b }
-            }
-        }
+        Row::Caret => if b == b'\t' { b } else { b' ' },
+        Row::Name => if b < SPACE || b == 127 { b'?' } else { b },
     }
 }
 
 // Bytes as they are shown there.
-pub fn then_row(filled: Filled, row: Row, s: &[u8], out: &mut [u8]) -> Filled
+pub fn then_row(filled: Option<usize>, row: Row, s: &[u8], out: &mut [u8]) -> Option<usize>
     ensures { WroteAfter filled out.old out.new (map (shown_in row) s.now) result }
 {
     let mut last = filled;
-    let mut i = 0;
-    while i < s.len() {
-        last = then_byte(last, shown_in(row, s[i]), out);
-        i += 1;
+    for b in s {
+        last = then_byte(last, shown_in(row, *b), out);
     }
     last
 }
 
 // Both rows.
-pub fn then_rows(filled: Filled, table: &[u8], place: usize, out: &mut [u8]) -> Filled
+pub fn then_rows(filled: Option<usize>, table: &[u8], place: usize, out: &mut [u8]) -> Option<usize>
     requires { place ≤ length table.now }
     ensures { WroteAfter filled out.old out.new (rows table.now place) result }
 {

@@ -14,7 +14,7 @@ map_at f (x ∷ l) zero a b h = refl
 map_at f (x ∷ l) (suc i) a b h = map_at f l i a b (omega arith)
 
 -- the table of f, computed from all causes, has f of a cause at its index
-pub table_at : {A : Type 0} (f : Cause → A) (d : A) (c : Cause) (i : ℕ) → IndexOf c i → get_or (map f causes) i d ≡ f c
+table_at : {A : Type 0} (f : Cause → A) (d : A) (c : Cause) (i : ℕ) → IndexOf c i → get_or (map f causes) i d ≡ f c
 table_at f d c i h = map_at f causes i LineLength d h.0 ∙ ap f h.1
 
 -- f of the index of each element, the first being n

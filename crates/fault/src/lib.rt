@@ -5,7 +5,7 @@ ghost use Rattle.std.specs.Prelude.{◌≡◌};
 ghost use Rattle.fault.specs.Fault.{number_of};
 ghost use Rattle.fault.specs.Contract.{IndexOf};
 
-#[derive(Clone, Copy)]
+#[derive(Clone, Copy, PartialEq, Eq)]
 pub enum Cause {
     // The joined line is too long.
     LineLength,
@@ -63,77 +63,46 @@ pub enum Cause {
     TooManyNames,
 }
 
-// The number of each cause, in their order.
-const NUMBERS: [u8; 27] = [
-    15, // LineLength
-    14, // Indent
-    14, // OpenQuote
-    15, // FieldCount
-    14, // Variable
-    15, // FieldLength
-    14, // Pattern
-    15, // PatternSize
-    15, // NameLength
-    15, // TextLength
-    15, // IdLength
-    15, // IfDepth
-    14, // Alternative
-    14, // TimeItem
-    14, // OptionName
-    14, // OptionValue
-    16, // PatternKind
-    16, // EntryTooEarly
-    14, // ColonWord
-    14, // DefineName
-    14, // Operator
-    14, // LatePair
-    14, // Path
-    14, // SurplusField
-    14, // MissingPart
-    14, // OptionTwice
-    18, // TooManyNames
-];
-
 impl Cause {
     // Where it stands in the order above; the first is 0.
     pub fn index(self) -> usize
         ensures { IndexOf self result }
     {
-        match self {
-            Cause::LineLength => 0,
-            Cause::Indent => 1,
-            Cause::OpenQuote => 2,
-            Cause::FieldCount => 3,
-            Cause::Variable => 4,
-            Cause::FieldLength => 5,
-            Cause::Pattern => 6,
-            Cause::PatternSize => 7,
-            Cause::NameLength => 8,
-            Cause::TextLength => 9,
-            Cause::IdLength => 10,
-            Cause::IfDepth => 11,
-            Cause::Alternative => 12,
-            Cause::TimeItem => 13,
-            Cause::OptionName => 14,
-            Cause::OptionValue => 15,
-            Cause::PatternKind => 16,
-            Cause::EntryTooEarly => 17,
-            Cause::ColonWord => 18,
-            Cause::DefineName => 19,
-            Cause::Operator => 20,
-            Cause::LatePair => 21,
-            Cause::Path => 22,
-            Cause::SurplusField => 23,
-            Cause::MissingPart => 24,
-            Cause::OptionTwice => 25,
-            Cause::TooManyNames => 26,
-        }
+        self as usize
     }
 
     // The number of the refusal.
+    #[tactic(auto, unfolding(crate::specs::Fault::number_of))]
     pub fn number(self) -> u8
         ensures { result ≡ number_of self }
     {
-        NUMBERS[self.index()]
+        match self {
+            Cause::Indent
+            | Cause::OpenQuote
+            | Cause::Variable
+            | Cause::Pattern
+            | Cause::Alternative
+            | Cause::TimeItem
+            | Cause::OptionName
+            | Cause::OptionValue
+            | Cause::ColonWord
+            | Cause::DefineName
+            | Cause::Operator
+            | Cause::LatePair
+            | Cause::Path
+            | Cause::SurplusField
+            | Cause::MissingPart
+            | Cause::OptionTwice => 14,
+            Cause::LineLength
+            | Cause::FieldCount
+            | Cause::FieldLength
+            | Cause::PatternSize
+            | Cause::NameLength
+            | Cause::TextLength
+            | Cause::IdLength
+            | Cause::IfDepth => 15,
+            Cause::PatternKind | Cause::EntryTooEarly => 16,
+            Cause::TooManyNames => 18,
+        }
     }
 }

@@ -1,4 +1,5 @@
 -- The two calls on lent numbers.
+use Rattle.std.specs.Prelude.{Result, Ok, Err}
 use mathlib.Core.Path.{◌≡◌, refl, sym, ap, ◌∙◌}
 use mathlib.Core.Bool.{Bool, true, false}
 use mathlib.Core.List.{List, [], ◌++◌}
@@ -9,24 +10,25 @@ use lib.IntN.{ℤ}
 use lib.ListN.{length, take, drop, take-append-drop}
 use lib.Seq.{take_at}
 use Rattle.figures.specs.declared.Figures.{Figures}
-use Rattle.figures.specs.declared.Fed.{Fed}
-use Rattle.figures.specs.declared.Feeding.{Feeding}
-use Rattle.figures.specs.declared.Feeding.TheVariants.{Taken, NotWhole, PastLimit}
+use Rattle.figures.specs.declared.FeedFault.{FeedFault}
+use Rattle.figures.specs.declared.FeedFault.TheVariants.{NotWhole, PastLimit}
 use Rattle.figures.specs.Figures.{record_limit, figures_of}
 use Rattle.figures.specs.Feed.{records_after, feed_told}
 use Rattle.figures.specs.Contract.{fed_with, Feeds}
 use Rattle.figures.proofs.Dividing.{after_most}
-use Rattle.figure_numbers.specs.Contract.{with_figures, cleared, Clears, can_feed, numbers_answer, figures_where, numbers_fed, FeedsNumbers}
+use Rattle.figure_numbers.specs.Contract.{with_figures, cleared, Clears, can_feed, handed_on, numbers_answer, numbers_fed, FeedsNumbers}
 use Rattle.figure_numbers.specs.Numbers.{numbers_length, usable, figures_in, numbers_of}
 use Rattle.figure_numbers.proofs.Places.{figures_back, figures_usable, figures_in_bounds, numbers_length_law}
-use Rattle.figure_numbers.specs.declared.lent.FedNumbers.TheVariants as lent
+use Rattle.figure_numbers.specs.declared.lent.Unusable.{Unusable as TooFew}
+use Rattle.figure_numbers.specs.declared.lent.FeedNumbersFault.{FeedNumbersFault}
+use Rattle.figure_numbers.specs.declared.lent.FeedNumbersFault.TheVariants.{Unusable, Feed}
 
 -- ---- the figures of no records
-pub clears_short : (old : List ℤ) → length old < numbers_length → Clears old old false
+pub clears_short : (old : List ℤ) {u : TooFew} → length old < numbers_length → Clears old old (Err u)
 unfolding cleared
 clears_short old h = let k = lt-leb numbers_length (length old) h in record { answer = sym k; numbers = rw k }
 
-pub clears_long : (old new : List ℤ) (g : Figures) → numbers_length ≤ length old → g ≡ figures_of [] → new ≡ numbers_of g ++ drop numbers_length old → Clears old new true
+pub clears_long : (old new : List ℤ) (g : Figures) → numbers_length ≤ length old → g ≡ figures_of [] → new ≡ numbers_of g ++ drop numbers_length old → Clears old new (Ok tt)
 unfolding cleared with_figures
 clears_long old new g h e n = let k = le-leb numbers_length (length old) h in record { answer = sym k; numbers = rw (k, ← e) n }
 
@@ -54,21 +56,8 @@ can_by : (old : List ℤ) → numbers_length ≤ length old → usable old ≡ c
 unfolding can_feed
 can_by old h = rw (le-leb numbers_length (length old) h)
 
--- every answer but 1 has looked at the batch
-looked : (a : Feeding) (g : Figures) (l : List ℤ) → ((feed_told a).number ≡ 1 → ⊥) → figures_where (feed_told a).past g l ≡ with_figures g l
-unfolding feed_told
-looked Taken g l h = refl
-looked NotWhole g l h = absurd (h refl)
-looked (PastLimit n) g l h = refl
-
-not_whole : (a : Feeding) → (feed_told a).number ≡ 1 → a ≡ NotWhole
-unfolding feed_told
-not_whole Taken e = absurd (omega arith)
-not_whole NotWhole e = refl
-not_whole (PastLimit n) e = absurd (omega arith)
-
 module _ (old : List ℤ) (batch : List ℕ) where
-  feeds_unusable : can_feed old ≡ false → FeedsNumbers old batch old lent.Unusable
+  feeds_unusable : can_feed old ≡ false → FeedsNumbers old batch old (Err Unusable)
   unfolding numbers_answer numbers_fed
   feeds_unusable c = record {
     answer = rw c;
@@ -76,40 +65,48 @@ module _ (old : List ℤ) (batch : List ℕ) where
     figures = λ rs h e. let k = records_usable old rs h e in let z : ◌≡◌ {A = ℕ} 0 1 = cc in absurd (omega arith);
   }
 
-  pub feeds_short : length old < numbers_length → FeedsNumbers old batch old lent.Unusable
+  pub feeds_short : length old < numbers_length → FeedsNumbers old batch old (Err Unusable)
   feeds_short h = feeds_unusable (can_not old h)
 
   module _ (l : numbers_length ≤ length old) {u : Bool} (eu : u ≡ usable old) where
-    pub feeds_refused : u ≡ false → FeedsNumbers old batch old lent.Unusable
+    pub feeds_refused : u ≡ false → FeedsNumbers old batch old (Err Unusable)
     feeds_refused t = feeds_unusable (sym (can_by old l) ∙ sym eu ∙ t)
 
-    module _ (t : u ≡ true) {g : Figures} (eg : g ≡ figures_in old) (fed : Fed) (x : Feeds g batch fed) where
+    module _ (t : u ≡ true) {g after : Figures} (eg : g ≡ figures_in old) {r : Result Unit FeedFault} (x : Feeds g batch after r) where
       can : can_feed old ≡ true
       can = sym (can_by old l) ∙ sym eu ∙ t
 
-      answered : lent.Fed fed.answer ≡ numbers_answer old batch
+      answered : handed_on r ≡ numbers_answer old batch
       unfolding numbers_answer
       answered = rw (can, ← eg, ← x.answer)
 
-      told : (rs : List (List ℕ)) → length rs ≤ record_limit → take numbers_length old ≡ numbers_of (figures_of rs) → fed.figures ≡ figures_of (records_after rs batch)
+      told : (rs : List (List ℕ)) → length rs ≤ record_limit → take numbers_length old ≡ numbers_of (figures_of rs) → after ≡ figures_of (records_after rs batch)
       told rs h e = x.figures rs h (eg ∙ records_back old rs h e)
 
       -- a batch that was looked at
-      pub feeds_placed : {n : ℕ} → n ≡ (feed_told fed.answer).number → (n ≡ 1 → ⊥) → (new : List ℤ) → new ≡ numbers_of fed.figures ++ drop numbers_length old → FeedsNumbers old batch new (lent.Fed fed.answer)
-      unfolding numbers_fed with_figures
-      feeds_placed {n} en o new e = record {
-        answer = answered;
-        numbers = e ∙ rw (x.counted, eg) (sym (looked fed.answer (fed_with (figures_in old) batch) old (λ k. o (en ∙ k))));
-        figures = λ rs h k. first_of fed.figures (records_after rs batch) new (drop numbers_length old) (after_most rs batch h) e (told rs h k);
+      placed : {q : Result Unit FeedNumbersFault} → handed_on r ≡ q → (new : List ℤ) → new ≡ numbers_of after ++ drop numbers_length old → with_figures (fed_with (figures_in old) batch) old ≡ numbers_fed q old batch → FeedsNumbers old batch new q
+      unfolding with_figures
+      placed k new e n = record {
+        answer = sym k ∙ answered;
+        numbers = e ∙ rw (x.counted, eg) n;
+        figures = λ rs h f. first_of after (records_after rs batch) new (drop numbers_length old) (after_most rs batch h) e (told rs h f);
       }
 
-      -- and one that was not
-      pub feeds_left : {n : ℕ} → n ≡ (feed_told fed.answer).number → n ≡ 1 → FeedsNumbers old batch old (lent.Fed fed.answer)
+      pub feeds_whole : r ≡ Ok tt → (new : List ℤ) → new ≡ numbers_of after ++ drop numbers_length old → FeedsNumbers old batch new (Ok tt)
       unfolding numbers_fed feed_told
-      feeds_left {n} en o =
-          let k = not_whole fed.answer (sym en ∙ o) in
+      feeds_whole k new e = placed (ap handed_on k) new e refl
+
+      pub feeds_past : {f : FeedFault} {n : ℕ} → r ≡ Err f → f ≡ PastLimit n → (new : List ℤ) → new ≡ numbers_of after ++ drop numbers_length old → FeedsNumbers old batch new (Err (Feed (PastLimit n)))
+      unfolding numbers_fed feed_told
+      feeds_past k m new e = placed (ap handed_on (k ∙ ap Err m)) new e refl
+
+      -- and one that was not
+      pub feeds_left : {f : FeedFault} → r ≡ Err f → f ≡ NotWhole → FeedsNumbers old batch old (Err (Feed NotWhole))
+      unfolding numbers_fed feed_told
+      feeds_left k m =
+          let w : r ≡ Err NotWhole = k ∙ ap Err m in
           record {
-            answer = answered;
-            numbers = rw k;
-            figures = λ rs h e. e ∙ ap numbers_of (sym (x.unchanged k ∙ eg ∙ records_back old rs h e) ∙ told rs h e);
+            answer = sym (ap handed_on w) ∙ answered;
+            numbers = refl;
+            figures = λ rs h e. e ∙ ap numbers_of (sym (x.unchanged w ∙ eg ∙ records_back old rs h e) ∙ told rs h e);
           }

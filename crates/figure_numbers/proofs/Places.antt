@@ -1,4 +1,5 @@
 -- The 64 numbers of figures, read back as these figures.
+use Rattle.std.specs.List.{list_all}
 use mathlib.Core.Path.{◌≡◌, refl, sym, ap, ◌∙◌}
 use mathlib.Core.Bool.{Bool, true}
 use mathlib.Core.List.{List, [], ◌∷◌, ◌++◌, map, append_assoc}
@@ -9,7 +10,6 @@ use lib.Dec.{eqb, leb}
 use lib.IntN.{ℤ, pos, neg_ℤ}
 use lib.ListN.{length, length-append, length-map, take, drop}
 use lib.Seq.{take_at, drop_at, drop-append-add, get_or-append-add}
-use Rattle.text.specs.Lists.{all}
 use Rattle.text.proofs.Laws.{both_true, both_of}
 use Rattle.text.proofs.Lists.{all_append}
 use Rattle.figures.specs.Figures.{record_limit, sum_limit, how_many, weekday_of, day_hour_of, table, figures_of, below_sum}
@@ -22,22 +22,20 @@ use Rattle.figure_numbers.specs.Numbers.{numbers_length, is_between, is_count, n
 -- ---- counts and sums back
 -- every count of a list is within the limit
 abbrev pub in_limit : List ℕ → Bool
-in_limit l = all (λ n. leb n record_limit) l
+in_limit l = list_all (λ n. leb n record_limit) l
 
 near : (limit n : ℕ) → n ≤ limit → nearest limit (pos n) ≡ n
 unfolding nearest
 near limit n h = omega arith
 
 counts_back : (l : List ℕ) → in_limit l ≡ true → map count_in (map pos l) ≡ l
-unfolding all
 counts_back [] e = refl
 counts_back (n ∷ l) e =
     let k = both_true (leb n record_limit) (in_limit l) e in
     let a = near record_limit n (leb-true n record_limit k.0) in
     rw (a, counts_back l k.1)
 
-counts_good : (l : List ℕ) → in_limit l ≡ true → all is_count (map pos l) ≡ true
-unfolding all
+counts_good : (l : List ℕ) → in_limit l ≡ true → list_all is_count (map pos l) ≡ true
 counts_good [] e = refl
 counts_good (n ∷ l) e = let k = both_true (leb n record_limit) (in_limit l) e in rw (k.0, counts_good l k.1, le-leb 0 n (omega arith))
 
@@ -195,11 +193,11 @@ module _ (g : Figures) (b : InBounds g) (rest : List ℤ) where
   long_enough : numbers_length ≤ length numbers
   long_enough = rw (at_totals, length-append front (totals_of g ++ rest), front_length) (omega (arith, totals_length))
 
-  first_good : all is_count (take 31 numbers) ≡ true
+  first_good : list_all is_count (take 31 numbers) ≡ true
   unfolding answers weekdays
   first_good = rw (first_31, all_append is_count answers weekdays) (both_of (counts_good g.answers b.answers.1) (counts_good g.weekdays b.weekdays.1))
 
-  hours_good : all is_count (take 24 (drop 32 numbers)) ≡ true
+  hours_good : list_all is_count (take 24 (drop 32 numbers)) ≡ true
   unfolding hours
   hours_good = rw last_24 (counts_good g.hours b.hours.1)
 
@@ -209,8 +207,7 @@ module _ (g : Figures) (b : InBounds g) (rest : List ℤ) where
   sum_good : is_between (pos 0) (pos sum_limit) (number_at numbers 57) ≡ true
   sum_good = rw (sum_is, le-leb 0 g.sum (omega arith), le-leb g.sum sum_limit b.sum)
 
-  counts_3 : all is_count (take 3 (drop 58 numbers)) ≡ true
-  unfolding all
+  counts_3 : list_all is_count (take 3 (drop 58 numbers)) ≡ true
   counts_3 =
       rw (
         totals_3,
@@ -234,7 +231,7 @@ table_length zero f = refl
 table_length (suc n) f = ap suc (table_length n (λ i. f (suc i)))
 
 table_in : (n : ℕ) (f : ℕ → ℕ) → ((i : ℕ) → f i ≤ record_limit) → in_limit (table n f) ≡ true
-unfolding table all
+unfolding table
 table_in zero f h = refl
 table_in (suc n) f h = both_of (le-leb (f 0) record_limit (h 0)) (table_in n (λ i. f (suc i)) (λ i. h (suc i)))
 

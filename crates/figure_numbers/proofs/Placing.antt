@@ -62,8 +62,8 @@ count_next f l at n i h =
 pub counts_length : (f : ℤ → ℕ) (l : List ℤ) (at n : ℕ) → at + n ≤ length l → length (map f (take n (drop at l))) ≡ n
 counts_length f l at n h = length-map (take n (drop at l)) f ∙ length-take n (drop at l) ∙ rw (length-drop at l) (omega arith)
 
-pub told_count : (l : List ℕ) (i : ℕ) → SFits w64 (pos (get_or l i 0)) → to_z w64 (get_or l i 0) ≡ get_or (map {A = ℕ} {B = ℤ} (λ x. pos x) l) i (pos 0)
-told_count l i f = kept f refl ∙ sym (get_or-map (λ x. pos x) l i 0)
+pub told_count : (l : List ℕ) (i : ℕ) {z : ℤ} → SFits w64 z → z ≡ pos (get_or l i 0) → to_z w64 (of_z w64 z) ≡ get_or (map {A = ℕ} {B = ℤ} (λ x. pos x) l) i (pos 0)
+told_count l i f e = kept f e ∙ sym (get_or-map (λ x. pos x) l i 0)
 
 -- ---- all 64
 totals_length : (g : Figures) → length (totals_of g) ≡ 8

@@ -1,7 +1,7 @@
 -- Figures as 64 numbers (02 (x), include/supertab.h).
+use Rattle.std.specs.List.{list_all}
 use Rattle.std.specs.Prelude.{ℕ, min, Bool, ◌&&◌, List, [], ◌∷◌, ◌++◌, map, ℤ, pos, negsuc, neg_ℤ, get_or, take, drop}
 use Rattle.std.specs.Int.Signed.{le_z}
-use Rattle.text.specs.Lists.{all}
 use Rattle.figures.specs.Figures.{record_limit, sum_limit, below_sum}
 use Rattle.figures.specs.declared.Figures.{Figures}
 
@@ -23,13 +23,12 @@ number_at l i = get_or l i (pos 0)
 
 -- "a count outside 0 to 1,000,000 or a sum outside ±16,777,215,000,000", each sum on its own side of zero; 31 and 61 to 63 are not looked at
 unfoldable pub usable : List ℤ → Bool
-unfolding all
 usable l =
-    all is_count (take 31 l)
-    && all is_count (take 24 (drop 32 l))
+    list_all is_count (take 31 l)
+    && list_all is_count (take 24 (drop 32 l))
     && is_between (neg_ℤ (pos sum_limit)) (pos 0) (number_at l 56)
     && is_between (pos 0) (pos sum_limit) (number_at l 57)
-    && all is_count (take 3 (drop 58 l))
+    && list_all is_count (take 3 (drop 58 l))
 
 -- a number that is not below zero
 abbrev pub positive_part : ℤ → ℕ

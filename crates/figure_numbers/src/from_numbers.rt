@@ -6,42 +6,27 @@ use super::Numbers;
 use figures::Figures;
 
 // A number as a count, as far as the limit; 0 below zero.
+#[tactic(auto, unfolding(crate::specs::Numbers::nearest))]
 fn count_in(n: i64) -> u32
     ensures { result ≡ count_in n }
 {
-    if n < 0 {
-        return 0;
-    }
-    if n > Figures::LIMIT as i64 {
-        return Figures::LIMIT;
-    }
-    n as u32
+    n.clamp(0, Figures::LIMIT as i64) as u32
 }
 
 // A number as a sum of ages, as far as their limit; 0 below zero.
+#[tactic(auto, unfolding(crate::specs::Numbers::nearest))]
 fn sum_in(n: i64) -> u64
     ensures { result ≡ sum_in n }
 {
-    if n < 0 {
-        return 0;
-    }
-    if n > Figures::SUM as i64 {
-        return Figures::SUM;
-    }
-    n as u64
+    n.clamp(0, Figures::SUM as i64) as u64
 }
 
 // How far a number lies below zero, as far as the limit of sums.
+#[tactic(auto, unfolding(crate::specs::Numbers::nearest))]
 fn below_in(n: i64) -> u64
     ensures { result ≡ below_in n }
 {
-    if n < -(Figures::SUM as i64) {
-        return Figures::SUM;
-    }
-    if n < 0 {
-        return (0 - n) as u64;
-    }
-    0
+    (0 - n.clamp(-(Figures::SUM as i64), 0)) as u64
 }
 
 // The numbers from a place on as counts, as many as there is room for.
@@ -49,10 +34,8 @@ fn counts_from(numbers: &[i64], at: usize, counts: &mut [u32])
     requires { at + length counts.old ≤ length numbers.now }
     ensures { counts.new ≡ map count_in (take (length counts.old) (drop at numbers.now)) }
 {
-    let mut i = 0;
-    while i < counts.len() {
+    for i in 0..counts.len() {
         counts[i] = count_in(numbers[at + i]);
-        i += 1;
     }
 }
 

@@ -5,41 +5,51 @@ use super::Numbers;
 use super::from_numbers::figures_in;
 use super::to_numbers::put_figures;
 use super::usable::is_usable;
-use figures::{Feeding, Figures};
+use figures::{FeedFault, Figures};
 
-// What is answered to a batch for lent numbers.
-#[derive(Drop)]
-pub enum FedNumbers {
-    // They are fewer than 64, or no figures; they are as they were.
+// The lent numbers are fewer than 64, or no figures; they are as they were.
+#[derive(Clone, Copy, PartialEq, Eq)]
+pub struct Unusable;
+
+// Why a batch for lent numbers, or a part of it, is refused.
+#[derive(Clone, Copy, PartialEq, Eq)]
+pub enum FeedNumbersFault {
+    // The numbers are fewer than 64, or no figures; they are as they were.
     Unusable,
-    Fed(Feeding),
+    Feed(FeedFault),
 }
 
-// The figures of no records at the front of the lent numbers; false where these are fewer than 64.
-pub fn clear(numbers: &mut [i64]) -> bool
+// The figures of no records at the front of the lent numbers.
+pub fn clear(numbers: &mut [i64]) -> Result<(), Unusable>
     ensures { Clears numbers.old numbers.new result }
 {
     if numbers.len() < Numbers::LENGTH {
-        return false;
+        return Err(Unusable);
     }
-    put_figures(Figures::new(), numbers);
-    true
+    put_figures(&Figures::new(), numbers);
+    Ok(())
 }
 
 // Feeds a batch to the figures at the front of the lent numbers.
-pub fn feed(numbers: &mut [i64], batch: &[u8]) -> FedNumbers
+pub fn feed(numbers: &mut [i64], batch: &[u8]) -> Result<(), FeedNumbersFault>
     ensures { FeedsNumbers numbers.old batch.now numbers.new result }
 {
     if numbers.len() < Numbers::LENGTH {
-        return FedNumbers::Unusable;
+        return Err(FeedNumbersFault::Unusable);
     }
     if !is_usable(numbers) {
-        return FedNumbers::Unusable;
+        return Err(FeedNumbersFault::Unusable);
     }
-    let fed = figures_in(numbers).feed(batch);
-    let answer = fed.answer;
-    if answer.number() != 1 {
-        put_figures(fed.figures, numbers);
+    let mut figures = figures_in(numbers);
+    match figures.feed(batch) {
+        Ok(()) => {
+            put_figures(&figures, numbers);
+            Ok(())
+        }
+        Err(FeedFault::NotWhole) => Err(FeedNumbersFault::Feed(FeedFault::NotWhole)),
+        Err(FeedFault::PastLimit(n)) => {
+            put_figures(&figures, numbers);
+            Err(FeedNumbersFault::Feed(FeedFault::PastLimit(n)))
+        }
     }
-    FedNumbers::Fed(answer)
 }

@@ -1,6 +1,6 @@
 // Whether numbers can be figures: counts up to the limit, and sums that so many ages can have.
+ghost use Rattle.std.specs.List.{list_all};
 ghost use Rattle.std.specs.Prelude.{◌≡◌, ◌≤◌, length};
-ghost use Rattle.text.specs.Lists.{all};
 ghost use Rattle.figure_numbers.specs.Numbers.{numbers_length, is_between, is_count, usable};
 
 use super::Numbers;
@@ -19,34 +19,20 @@ fn is_between(low: i64, n: i64, high: i64) -> bool
 
 // Whether all are counts.
 fn are_counts(numbers: &[i64]) -> bool
-    ensures { result ≡ all is_count numbers.now }
+    ensures { result ≡ list_all is_count numbers.now }
 {
-    let mut i = 0;
-    while i < numbers.len() {
-        if !is_between(0, numbers[i], LIMIT) {
-            return false;
-        }
-        i += 1;
-    }
-    true
+    numbers.iter().all(|n| is_between(0, *n, LIMIT))
 }
 
 // Whether the first 64 can be figures.
+#[tactic(auto, unfolding(crate::specs::Numbers::usable))]
 pub fn is_usable(numbers: &[i64]) -> bool
     requires { numbers_length ≤ length numbers.now }
     ensures { result ≡ usable numbers.now }
 {
-    if !are_counts(&numbers[Numbers::ANSWERS..Numbers::UNUSED]) {
-        return false;
-    }
-    if !are_counts(&numbers[Numbers::HOURS..Numbers::BELOW_ZERO_SUM]) {
-        return false;
-    }
-    if !is_between(-SUM, numbers[Numbers::BELOW_ZERO_SUM], 0) {
-        return false;
-    }
-    if !is_between(0, numbers[Numbers::AGE_SUM], SUM) {
-        return false;
-    }
-    are_counts(&numbers[Numbers::AGE_COUNT..Numbers::END])
+    are_counts(&numbers[Numbers::ANSWERS..Numbers::UNUSED])
+        && are_counts(&numbers[Numbers::HOURS..Numbers::BELOW_ZERO_SUM])
+        && is_between(-SUM, numbers[Numbers::BELOW_ZERO_SUM], 0)
+        && is_between(0, numbers[Numbers::AGE_SUM], SUM)
+        && are_counts(&numbers[Numbers::AGE_COUNT..Numbers::END])
 }

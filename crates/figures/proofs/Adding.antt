@@ -1,28 +1,24 @@
 -- What the code adds for one record.
+use Rattle.std.specs.Prelude.{Ok, Err, Option}
+use Rattle.question.specs.declared.Age.{Age}
 use mathlib.Core.Path.{◌≡◌, sym, ap, ◌∙◌}
 use mathlib.Core.Bool.{Bool, true, false, not, cond}
 use mathlib.Core.List.{List}
-use mathlib.Core.Option.{none, some}
 use Prim.Native.Nat.{ℕ, min, ◌+◌, ◌-◌, ◌≤◌, ◌<◌}
 use native.Mathlib.Omega.{arith}
 use borrow.Author.Tests.{le-leb, lt-leb}
 use lib.ListN.{get_or, set}
 use Rattle.question.specs.Question.{week_minutes}
-use Rattle.question.specs.declared.LastAuthentication.{LastAuthentication}
 use Rattle.record.specs.declared.Fields.{Fields}
-use Rattle.record.specs.declared.Record.{Record}
-use Rattle.record.specs.declared.Record.TheVariants.{Stored}
+use Rattle.record.specs.declared.RecordFault.{RecordFault}
 use Rattle.record.specs.Layout.{is_below, size_of}
 use Rattle.record.specs.Stored.{stored_age}
 use Rattle.record.specs.Read.{record_in, record_told}
 use Rattle.record.proofs.Keeping.{known_most}
-use Rattle.record.specs.contracts.Record.{the_type}
-use Rattle.record.proofs.RoundTrip.{read_known, refusals, refusal_shows_nothing}
+use Rattle.record.proofs.RoundTrip.{read_known}
 use Rattle.figures.specs.declared.Figures.{Figures}
 use Rattle.figures.specs.Figures.{record_limit, sum_limit, fields_shown, weekday_of, day_hour_of, below_zero, is_from_zero, from_zero}
-use Rattle.figures.specs.Contract.{more, summed, raised, with_fields, with_refused, with_record, room_for}
-use denote.Enum.Declared.{tag_of}
-use types.Run.{OneOf}
+use Rattle.figures.specs.Contract.{more, summed, raised, with_fields, with_refused, with_shown, with_record, room_for}
 
 -- ---- counts and sums that stop
 pub more_in : (n : ℕ) → n < record_limit → n + 1 ≡ more n
@@ -54,7 +50,7 @@ unfolding room_for
 room_most given records r e = omega arith
 
 -- ---- ages
-module _ (n : ℕ) (age : LastAuthentication) where
+module _ (n : ℕ) (age : (Option Age)) where
   pub below_other : 1 < n → 0 ≡ below_zero n (stored_age age)
   unfolding below_zero
   below_other h = rw (lt-leb n 1 h)
@@ -105,22 +101,13 @@ unfolding with_refused
 refused_more g p q = rw (p, q)
 
 -- the fields that a record shows
-pub fields_shown_law : (s : List ℕ) (f : Fields) → record_in s ≡ Stored f → fields_shown s ≡ some f
-unfolding fields_shown record_told
-fields_shown_law s f e = ap (λ r. (record_told r).shown) e
+pub record_stored : (g : Figures) (s : List ℕ) (f : Fields) {r : Figures} → record_in s ≡ Ok f → r ≡ with_fields g f → r ≡ with_record g s
+unfolding with_record fields_shown record_told
+record_stored g s f e h = h ∙ sym (ap (λ q. with_shown g ((record_told q).shown)) e)
 
-pub fields_refused : (s : List ℕ) (q : Record) → q ≡ record_in s → OneOf refusals (tag_of the_type q) → fields_shown s ≡ none
-unfolding fields_shown
-fields_refused s q e h = ap (λ r. (record_told r).shown) (sym e) ∙ refusal_shows_nothing q h
+pub record_refused : (g : Figures) (s : List ℕ) (q : RecordFault) {r : Figures} → record_in s ≡ Err q → r ≡ with_refused g → r ≡ with_record g s
+unfolding with_record fields_shown record_told
+record_refused g s q e h = h ∙ sym (ap (λ q. with_shown g ((record_told q).shown)) e)
 
-pub record_stored : (g : Figures) (s : List ℕ) (f : Fields) {r : Figures} → record_in s ≡ Stored f → r ≡ with_fields g f → r ≡ with_record g s
-unfolding with_record
-record_stored g s f e h = rw (fields_shown_law s f e) h
-
-pub record_refused : (g : Figures) (s : List ℕ) (q : Record) {r : Figures} → q ≡ record_in s → OneOf refusals (tag_of the_type q) → r ≡ with_refused g → r ≡ with_record g s
-unfolding with_record
-record_refused g s q e k h = rw (fields_refused s q e k) h
-
--- the places of stored fields in the arrays
-pub stored_low : (s : List ℕ) (f : Fields) → record_in s ≡ Stored f → (f.number ≤ 23) × (f.minute.0 < week_minutes)
+pub stored_low : (s : List ℕ) (f : Fields) → record_in s ≡ Ok f → (f.number ≤ 23) × (f.minute.0 < week_minutes)
 stored_low s f e = let k = read_known s f e in (known_most f.number k.number, k.minute)

@@ -7,7 +7,8 @@ use borrow.Author.Tests.{eq-eqb, ne_eqb, le-leb, lt-leb}
 use lib.ListN.{length, take, drop}
 use lib.Seq.{drop-drop, take-append-add}
 use Rattle.figures.specs.declared.Figures.{Figures}
-use Rattle.figures.specs.declared.Feeding.TheVariants.{Taken, NotWhole, PastLimit}
+use Rattle.std.specs.Prelude.{Ok, Err}
+use Rattle.figures.specs.declared.FeedFault.TheVariants.{NotWhole, PastLimit}
 use Rattle.figures.specs.Figures.{record_limit, records_in, records_of, figures_of}
 use Rattle.figures.specs.Feed.{feed_answer, first_records, records_after}
 use Rattle.figures.specs.Contract.{with_record, with_all, room_for, fed_with, Feeds}
@@ -76,7 +77,7 @@ given_of rs = refl
 
 -- ---- what is promised of a batch
 module _ (g : Figures) (batch : List ℕ) where
-  pub feeds_not : (length batch % 8 ≡ 0 → ⊥) → Feeds g batch (record { figures = g; answer = NotWhole })
+  pub feeds_not : (length batch % 8 ≡ 0 → ⊥) → Feeds g batch g (Err NotWhole)
   unfolding feed_answer fed_with
   feeds_not w = record {
     answer = rw (ne_eqb (length batch % 8) 0 w);
@@ -100,7 +101,7 @@ module _ (g : Figures) (batch : List ℕ) where
     unfolding room_for
     taken_min = m
 
-    pub feeds_past : taken < length batch / 8 → Feeds g batch (record { figures = after; answer = PastLimit (length batch / 8 - taken) })
+    pub feeds_past : taken < length batch / 8 → Feeds g batch after (Err (PastLimit (length batch / 8 - taken)))
     unfolding feed_answer
     feeds_past h =
         let t = taken_min in
@@ -113,7 +114,7 @@ module _ (g : Figures) (batch : List ℕ) where
           counted = after_counted;
         }
 
-    pub feeds_all : length batch / 8 ≤ taken → Feeds g batch (record { figures = after; answer = Taken })
+    pub feeds_all : length batch / 8 ≤ taken → Feeds g batch after (Ok tt)
     unfolding feed_answer
     feeds_all h =
         let t = taken_min in

@@ -1,9 +1,9 @@
 -- The figures of records and one record more.
+use Rattle.std.specs.Prelude.{None, Option, Some, Result, Ok, Err}
 use mathlib.Core.Path.{◌≡◌, refl, sym, ap, ◌∙◌}
 use mathlib.Core.Bool.{Bool, true, false, cond, ◌&&◌}
 use mathlib.Core.List.{List, [], ◌∷◌, ◌++◌, append_assoc, append-nil}
 use mathlib.Core.Logic.{◌⊎◌, inl, inr}
-use mathlib.Core.Option.{Option, none, some}
 use Prim.Native.Nat.{ℕ, suc, ◌+◌, ◌*◌, ◌≤◌, ◌<◌}
 use native.Mathlib.Omega.{arith}
 use borrow.Author.Tests.{eq-eqb, ne_eqb}
@@ -12,8 +12,7 @@ use lib.ListN.{length, length-append}
 use Rattle.text.specs.Lists.{count}
 use Rattle.text.proofs.Laws.{pick_of}
 use Rattle.record.specs.declared.Fields.{Fields}
-use Rattle.record.specs.declared.Record.{Record}
-use Rattle.record.specs.declared.Record.TheVariants.{Stored, OtherVersion, UnknownNumber, BadMinute, WrongLength}
+use Rattle.record.specs.declared.RecordFault.{RecordFault}
 use Rattle.record.specs.Layout.{is_below, size_of}
 use Rattle.record.specs.Stored.{largest_size, stored_age}
 use Rattle.record.specs.Read.{record_in, record_told}
@@ -51,25 +50,22 @@ module _ {A : Type 0} (test : A → Bool) where
 
 -- ---- one record
 -- the fields that a record shows are those that were read
-pub shown_stored : (s : List ℕ) (f : Fields) → fields_shown s ≡ some f → record_in s ≡ Stored f
+pub shown_stored : (s : List ℕ) (f : Fields) → fields_shown s ≡ Some f → record_in s ≡ Ok f
 unfolding fields_shown record_told
 shown_stored s f = go (record_in s)
   where
-    go : (r : Record) → (record_told r).shown ≡ some f → r ≡ Stored f
-    go (Stored g) e = cc
-    go OtherVersion e = cc
-    go UnknownNumber e = cc
-    go BadMinute e = cc
-    go WrongLength e = cc
+    go : (r : Result Fields RecordFault) → (record_told r).shown ≡ Some f → r ≡ Ok f
+    go (Ok g) e = cc
+    go (Err q) e = cc
 
 -- what is known of fields that a record shows
-pub shown_known : (s : List ℕ) (f : Fields) → fields_shown s ≡ some f → Storable f
+pub shown_known : (s : List ℕ) (f : Fields) → fields_shown s ≡ Some f → Storable f
 shown_known s f e = read_known s f (shown_stored s f e)
 
 -- a record shows fields, or it is refused
-pub cases : (o : Option Fields) → ((f : Fields) × (o ≡ some f)) ⊎ (o ≡ none)
-cases (some f) = inl (f, refl)
-cases none = inr refl
+pub cases : (o : Option Fields) → ((f : Fields) × (o ≡ Some f)) ⊎ (o ≡ None)
+cases (Some f) = inl (f, refl)
+cases None = inr refl
 
 -- ---- one record more
 module _ (test : Fields → Bool) where
@@ -81,10 +77,10 @@ module _ (test : Fields → Bool) where
   unfolding how_many
   many_snoc rs s = count_snoc (λ x. passes_test test (fields_shown x)) rs s
 
-  many_fields : (rs : List (List ℕ)) (s : List ℕ) (f : Fields) → fields_shown s ≡ some f → how_many test (rs ++ (s ∷ [])) ≡ how_many test rs + cond (test f) 1 0
+  many_fields : (rs : List (List ℕ)) (s : List ℕ) (f : Fields) → fields_shown s ≡ Some f → how_many test (rs ++ (s ∷ [])) ≡ how_many test rs + cond (test f) 1 0
   many_fields rs s f e = rw (many_snoc rs s, e)
 
-  many_refused : (rs : List (List ℕ)) (s : List ℕ) → fields_shown s ≡ none → how_many test (rs ++ (s ∷ [])) ≡ how_many test rs
+  many_refused : (rs : List (List ℕ)) (s : List ℕ) → fields_shown s ≡ None → how_many test (rs ++ (s ∷ [])) ≡ how_many test rs
   many_refused rs s e = rw (many_snoc rs s, e) (omega arith)
 
 module _ (amount : Fields → ℕ) where
@@ -103,7 +99,7 @@ module _ (amount : Fields → ℕ) where
   amount_most : ((f : Fields) → amount f ≤ size_of f.age) → (s : List ℕ) → amount_of amount (fields_shown s) ≤ largest_size
   amount_most h s = go (cases (fields_shown s))
     where
-      go : ((f : Fields) × (fields_shown s ≡ some f)) ⊎ (fields_shown s ≡ none) → amount_of amount (fields_shown s) ≤ largest_size
+      go : ((f : Fields) × (fields_shown s ≡ Some f)) ⊎ (fields_shown s ≡ None) → amount_of amount (fields_shown s) ≤ largest_size
       go (inl p) = rw p.1 (omega (arith, h p.0, (shown_known s p.0 p.1).age))
       go (inr e) = rw e (omega arith)
 
@@ -111,7 +107,7 @@ module _ (amount : Fields → ℕ) where
   ages_most h rs = total_most largest_size (amount_most h) rs
 
 -- by a key: one more at the record's own
-module _ (key : Fields → ℕ) (rs : List (List ℕ)) (s : List ℕ) (f : Fields) (e : fields_shown s ≡ some f) where
+module _ (key : Fields → ℕ) (rs : List (List ℕ)) (s : List ℕ) (f : Fields) (e : fields_shown s ≡ Some f) where
   key_more : OneMore (key f) (λ n. how_many (λ q. eqb (key q) n) rs) (λ n. how_many (λ q. eqb (key q) n) (rs ++ (s ∷ [])))
   key_more = record {
     here = rw (many_fields (λ q. eqb (key q) (key f)) rs s f e, eq-eqb (key f) (key f) refl);
@@ -147,7 +143,7 @@ module _ (rs : List (List ℕ)) (s : List ℕ) (h : length rs < record_limit) wh
   given_on : more (length rs) ≡ length (rs ++ (s ∷ []))
   given_on = rw (one_longer rs s) (sym (more_in (length rs) h))
 
-  module _ (f : Fields) (e : fields_shown s ≡ some f) where
+  module _ (f : Fields) (e : fields_shown s ≡ Some f) where
     fits : Storable f
     fits = shown_known s f e
 
@@ -188,7 +184,7 @@ module _ (rs : List (List ℕ)) (s : List ℕ) (h : length rs < record_limit) wh
         let c = many_on (λ q. is_from_zero q.number q.age) in
         rw (uncapped, a, w, o, b, p, c, given_on, refused_stays)
 
-  module _ (e : fields_shown s ≡ none) where
+  module _ (e : fields_shown s ≡ None) where
     refused_one : more (refused_of rs) ≡ refused_of (rs ++ (s ∷ []))
     refused_one = rw (refused_snoc rs s, e) (sym (more_in (refused_of rs) (omega (arith, refused_most rs))))
 
@@ -217,7 +213,7 @@ module _ (rs : List (List ℕ)) (s : List ℕ) (h : length rs < record_limit) wh
   unfolding with_record
   record_on = go (cases (fields_shown s))
     where
-      go : ((f : Fields) × (fields_shown s ≡ some f)) ⊎ (fields_shown s ≡ none) → with_shown (figures_of rs) (fields_shown s) ≡ figures_of (rs ++ (s ∷ []))
+      go : ((f : Fields) × (fields_shown s ≡ Some f)) ⊎ (fields_shown s ≡ None) → with_shown (figures_of rs) (fields_shown s) ≡ figures_of (rs ++ (s ∷ []))
       go (inl p) = rw p.1 (fields_on p.0 p.1)
       go (inr e) = rw e (refused_on e)
 

@@ -8,7 +8,6 @@ use borrow.Author.Tests.{eqb-true}
 use lib.Dec.{eqb}
 use lib.ListN.{length, length-append, length-take, length-drop, take, drop}
 use lib.Seq.{take-append-le, drop-append-le, take_all}
-use Rattle.text.specs.Lists.{all}
 use Rattle.text.proofs.Laws.{pick_of, both_true}
 use Rattle.figures.specs.declared.Figures.{Figures}
 use Rattle.figures.specs.Figures.{record_limit, records_in, records_of, figures_of}
@@ -71,7 +70,7 @@ unfolding records_of records_in
 no_records = refl
 
 after_all : (rs bs : List (List ℕ)) → length rs ≤ record_limit → whole_records bs ≡ true → records_after_all rs bs ≡ first_records (rs ++ records_of (all_bytes_of bs))
-unfolding records_after_all all_bytes_of whole_records all
+unfolding records_after_all all_bytes_of whole_records
 after_all rs [] h w = sym (first_all rs h) ∙ ap first_records (sym (append-nil rs) ∙ ap (λ l. rs ++ l) (sym no_records))
 after_all rs (b ∷ bs) h w =
     let t = both_true (eqb (length b % 8) 0) (whole_records bs) w in

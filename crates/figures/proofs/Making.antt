@@ -1,9 +1,9 @@
 -- The counts and the refused records make the number given (02 (x)).
+use Rattle.std.specs.Prelude.{None, Some}
 use mathlib.Core.Path.{◌≡◌, refl}
 use mathlib.Core.Bool.{Bool, cond}
 use mathlib.Core.List.{List, [], ◌∷◌}
 use mathlib.Core.Logic.{◌⊎◌, inl, inr}
-use mathlib.Core.Option.{none, some}
 use Prim.Native.Nat.{ℕ, suc, ◌+◌, ◌<◌}
 use native.Mathlib.Omega.{arith}
 use borrow.Author.Tests.{eq-eqb, ne_eqb}
@@ -35,18 +35,18 @@ module _ (n : ℕ) (key : Fields → ℕ) (low : (f : Fields) → Storable f →
   none_keyed = omega (arith, sum_none n)
 
   module _ (s : List ℕ) (rs : List (List ℕ)) (i : sum_of (table n (keyed rs)) + refused_of rs ≡ length rs) where
-    keyed_more : (f : Fields) → fields_shown s ≡ some f → OneMore (key f) (keyed rs) (keyed (s ∷ rs))
+    keyed_more : (f : Fields) → fields_shown s ≡ Some f → OneMore (key f) (keyed rs) (keyed (s ∷ rs))
     unfolding keyed
     keyed_more f e = record {
       here = rw (many_cons (λ q. eqb (key q) (key f)) s rs, e, eq-eqb (key f) (key f) refl);
       there = λ j h. rw (many_cons (λ q. eqb (key q) j) s rs, e, ne_eqb (key f) j h) (omega arith);
     }
 
-    keyed_same : fields_shown s ≡ none → (j : ℕ) → keyed (s ∷ rs) j ≡ keyed rs j
+    keyed_same : fields_shown s ≡ None → (j : ℕ) → keyed (s ∷ rs) j ≡ keyed rs j
     unfolding keyed
     keyed_same e j = rw (many_cons (λ q. eqb (key q) j) s rs, e) (omega arith)
 
-    counts_on : ((f : Fields) × (fields_shown s ≡ some f)) ⊎ (fields_shown s ≡ none) → sum_of (table n (keyed (s ∷ rs))) + refused_of (s ∷ rs) ≡ suc (length rs)
+    counts_on : ((f : Fields) × (fields_shown s ≡ Some f)) ⊎ (fields_shown s ≡ None) → sum_of (table n (keyed (s ∷ rs))) + refused_of (s ∷ rs) ≡ suc (length rs)
     counts_on (inl p) =
         let k = sum_more n (key p.0) (keyed rs) (keyed (s ∷ rs)) (low p.0 (shown_known s p.0 p.1)) (keyed_more p.0 p.1) in
         rw (refused_cons s rs, p.1, k) (omega arith)

@@ -1,22 +1,16 @@
 -- What contracts and laws cite beside the meaning: one record more, as the code counts it, what a batch leaves, and a series of batches.
-use Rattle.std.specs.Prelude.{ℕ, suc, min, ◌+◌, ◌-◌, ◌/◌, ◌%◌, ◌≤◌, ◌≡◌, Bool, cond, List, [], ◌∷◌, ◌++◌, eqb, length, get_or, set}
-use Rattle.std.proofs.Math.Option.{Option, none, some}
-use Rattle.text.specs.Lists.{all}
+use Rattle.std.specs.List.{list_all}
+use Rattle.std.specs.Prelude.{ℕ, suc, min, ◌+◌, ◌-◌, ◌/◌, ◌%◌, ◌≤◌, ◌≡◌, Bool, cond, List, [], ◌∷◌, ◌++◌, eqb, length, get_or, set, None, Option, Some, Result, Err}
 use Rattle.record.specs.declared.Fields.{Fields}
 use Rattle.record.specs.Layout.{record_length}
 use Rattle.record.specs.Stored.{stored_age}
 use Rattle.figures.specs.declared.Figures.{Figures}
-use Rattle.figures.specs.declared.Fed.{Fed}
-use Rattle.figures.specs.declared.feed.Totals.{Totals}
-use Rattle.figures.specs.declared.Feeding.TheVariants.{NotWhole}
+use Rattle.figures.specs.declared.FeedFault.{FeedFault}
+use Rattle.figures.specs.declared.FeedFault.TheVariants.{NotWhole}
 use Rattle.figures.specs.Figures.{record_limit, sum_limit, records_in, fields_shown, weekday_of, day_hour_of, below_zero, is_from_zero, from_zero, figures_of}
 use Rattle.figures.specs.Feed.{feed_answer, records_after}
 
 -- ---- one record more
--- the figures that the code keeps apart while it counts
-abbrev pub figures_with : Totals → (answers weekdays hours : List ℕ) → Figures
-figures_with t a w h = record { answers = a; weekdays = w; hours = h; below = t.below; sum = t.sum; ages = t.ages; refused = t.refused; given = t.given }
-
 -- a count and one more; of 1,000,000 records no count passes the limit
 unfoldable pub more : ℕ → ℕ
 more n = min (suc n) record_limit
@@ -56,8 +50,8 @@ with_refused g = record {
 }
 
 abbrev pub with_shown : Figures → Option Fields → Figures
-with_shown g (some f) = with_fields g f
-with_shown g none = with_refused g
+with_shown g (Some f) = with_fields g f
+with_shown g None = with_refused g
 
 -- the figures with one record more
 unfoldable pub with_record : Figures → List ℕ → Figures
@@ -78,20 +72,20 @@ unfoldable pub fed_with : Figures → List ℕ → Figures
 fed_with g batch = cond (eqb (length batch % record_length) 0) (with_all g (records_in (room_for g.given (length batch / record_length)) batch)) g
 
 -- a batch was fed: its answer, and the figures after it
-pub record Feeds (before : Figures) (batch : List ℕ) (r : Fed) : Type 0 where
-  pub answer : r.answer ≡ feed_answer before.given (length batch)
+pub record Feeds (before : Figures) (batch : List ℕ) (after : Figures) (r : Result Unit FeedFault) : Type 0 where
+  pub answer : r ≡ feed_answer before.given (length batch)
   -- figures of records become those of the records that count after the batch
-  pub figures : (rs : List (List ℕ)) → length rs ≤ record_limit → before ≡ figures_of rs → r.figures ≡ figures_of (records_after rs batch)
+  pub figures : (rs : List (List ℕ)) → length rs ≤ record_limit → before ≡ figures_of rs → after ≡ figures_of (records_after rs batch)
   -- a batch that is refused whole leaves every figure
-  pub unchanged : r.answer ≡ NotWhole → r.figures ≡ before
+  pub unchanged : r ≡ Err NotWhole → after ≡ before
   -- any figures, also those of no records, are counted on alike
-  pub counted : r.figures ≡ fed_with before batch
+  pub counted : after ≡ fed_with before batch
 
 -- ---- a series of batches
--- each batch is fed to what the last handed back
+-- each batch is fed to what the last one left
 pub data Series : Figures → List (List ℕ) → Figures → Type 0 where
   done : {f : Figures} → Series f [] f
-  then : {f g : Figures} {batch : List ℕ} {batches : List (List ℕ)} {r : Fed} → Feeds f batch r → Series r.figures batches g → Series f (batch ∷ batches) g
+  then : {f g after : Figures} {batch : List ℕ} {batches : List (List ℕ)} {r : Result Unit FeedFault} → Feeds f batch after r → Series after batches g → Series f (batch ∷ batches) g
 
 -- all bytes of the batches, one after the other
 unfoldable pub all_bytes_of : List (List ℕ) → List ℕ
@@ -100,5 +94,4 @@ all_bytes_of (b ∷ bs) = b ++ all_bytes_of bs
 
 -- batches of whole records
 unfoldable pub whole_records : List (List ℕ) → Bool
-unfolding all
-whole_records bs = all (λ b. eqb (length b % record_length) 0) bs
+whole_records bs = list_all (λ b. eqb (length b % record_length) 0) bs

@@ -1,8 +1,7 @@
 -- The figures of a list of records (02 (x)), by counting and adding; nothing of batches is in it.
-use Rattle.std.specs.Prelude.{ℕ, zero, suc, min, ◌+◌, ◌/◌, ◌%◌, Bool, true, false, not, cond, ◌&&◌, List, [], ◌∷◌, eqb, leb, ℤ, pos, neg_ℤ, length, take, drop}
-use Rattle.std.proofs.Math.Option.{Option, none, some}
+use Rattle.question.specs.declared.Age.{Age}
+use Rattle.std.specs.Prelude.{ℕ, zero, suc, min, ◌+◌, ◌/◌, ◌%◌, Bool, true, false, not, cond, ◌&&◌, List, [], ◌∷◌, eqb, leb, ℤ, pos, neg_ℤ, length, take, drop, None, Option, Some}
 use Rattle.text.specs.Lists.{count}
-use Rattle.question.specs.declared.LastAuthentication.{LastAuthentication}
 use Rattle.times.specs.Clock.{day_minutes}
 use Rattle.record.specs.declared.Fields.{Fields}
 use Rattle.record.specs.Layout.{record_length, is_below, size_of}
@@ -35,17 +34,17 @@ fields_shown s = (record_told (record_in s)).shown
 -- ---- counting and adding
 -- "A record that (ii) refuses counts as refused only": it passes no test, and it has nothing of any amount
 abbrev pub passes_test : (Fields → Bool) → Option Fields → Bool
-passes_test test (some f) = test f
-passes_test test none = false
+passes_test test (Some f) = test f
+passes_test test None = false
 
 abbrev pub amount_of : (Fields → ℕ) → Option Fields → ℕ
-amount_of amount (some f) = amount f
-amount_of amount none = 0
+amount_of amount (Some f) = amount f
+amount_of amount None = 0
 
 -- whether a record is refused
 abbrev pub is_refused : Option Fields → Bool
-is_refused (some f) = false
-is_refused none = true
+is_refused (Some f) = false
+is_refused None = true
 
 -- how many records pass a test
 unfoldable pub how_many : (Fields → Bool) → List (List ℕ) → ℕ
@@ -70,15 +69,15 @@ abbrev pub day_hour_of : Fields → ℕ
 day_hour_of f = f.minute.0 / 60 % 24
 
 -- "ages of records with answer 0 or 1, apart for those below zero": how far below; "never" has the sign but no size, and adds nothing
-unfoldable pub below_zero : (number : ℕ) → LastAuthentication → ℕ
+unfoldable pub below_zero : (number : ℕ) → (Option Age) → ℕ
 below_zero n age = cond (leb n 1 && is_below age) (size_of age) 0
 
 -- "and the rest (ages of `never` in neither)"
-unfoldable pub is_from_zero : (number : ℕ) → LastAuthentication → Bool
+unfoldable pub is_from_zero : (number : ℕ) → (Option Age) → Bool
 is_from_zero n age = leb n 1 && not (is_below age)
 
 -- an age of the rest
-unfoldable pub from_zero : (number : ℕ) → LastAuthentication → ℕ
+unfoldable pub from_zero : (number : ℕ) → (Option Age) → ℕ
 from_zero n age = cond (is_from_zero n age) (size_of age) 0
 
 -- f of 0, f of 1, .., so many

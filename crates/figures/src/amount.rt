@@ -5,11 +5,11 @@ ghost use Rattle.figures.specs.Figures.{below_zero, from_zero, is_from_zero};
 ghost use Rattle.figures.specs.Contract.{summed};
 
 use super::Figures;
-use question::LastAuthentication;
+use question::Age;
 use record::age::{is_below, size_of};
 
 // How far an age of an answer 0 or 1 lies below zero; 0 for every other.
-pub fn below_zero(number: u8, age: LastAuthentication) -> u64
+pub fn below_zero(number: u8, age: Option<Age>) -> u64
     ensures { result ≡ below_zero number (stored_age age) }
 {
     if number > 1 {
@@ -22,7 +22,7 @@ pub fn below_zero(number: u8, age: LastAuthentication) -> u64
 }
 
 // Whether it is an age of an answer 0 or 1 that does not lie below zero; "never" is none.
-pub fn is_from_zero(number: u8, age: LastAuthentication) -> bool
+pub fn is_from_zero(number: u8, age: Option<Age>) -> bool
     ensures { result ≡ is_from_zero number (stored_age age) }
 {
     if number > 1 {
@@ -32,7 +32,7 @@ pub fn is_from_zero(number: u8, age: LastAuthentication) -> bool
 }
 
 // Such an age; 0 for every other.
-pub fn from_zero(number: u8, age: LastAuthentication) -> u64
+pub fn from_zero(number: u8, age: Option<Age>) -> u64
     ensures { result ≡ from_zero number (stored_age age) }
 {
     if !is_from_zero(number, age) {

@@ -17,10 +17,7 @@ pub fn one_more(n: u32) -> u32
 pub fn one_more_if(counts: bool, n: u32) -> u32
     ensures { result ≡ cond counts (more n) n }
 {
-    if counts {
-        return one_more(n);
-    }
-    n
+    if counts { one_more(n) } else { n }
 }
 
 // One more at a place.

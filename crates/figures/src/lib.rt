@@ -1,7 +1,7 @@
 // Monthly figures of log records, fed in batches.
 #![tactic(auto)]
 
-ghost use Rattle.std.specs.Prelude.{◌≡◌};
+ghost use Rattle.std.specs.Prelude.{◌≡◌, Err};
 ghost use Rattle.figures.specs.Feed.{feed_told};
 
 mod amount; // what the age of one record adds to the sums
@@ -41,32 +41,24 @@ impl Figures {
     pub const HOURS: usize = 24;
 }
 
-// What is answered to a batch.
-#[derive(Clone, Copy)]
-pub enum Feeding {
-    Taken,
+// Why a batch, or a part of it, is refused.
+#[derive(Clone, Copy, PartialEq, Eq)]
+pub enum FeedFault {
     // The bytes are no whole records; the figures are as they were.
     NotWhole,
     // So many records lie past the limit; those before them count.
     PastLimit(u64),
 }
 
-impl Feeding {
-    // The refusal's number, 0 for none.
+impl FeedFault {
+    // The refusal's number.
+    #[tactic(auto, unfolding(crate::specs::Feed::feed_told))]
     pub fn number(self) -> u8
-        ensures { result ≡ (feed_told self).number }
+        ensures { result ≡ (feed_told (Err self)).number }
     {
         match self {
-            Feeding::Taken => 0,
-            Feeding::NotWhole => 1,
-            Feeding::PastLimit(_) => 2,
+            FeedFault::NotWhole => 1,
+            FeedFault::PastLimit(_) => 2,
         }
     }
-}
-
-// The figures after a batch, and the answer.
-#[derive(Drop)]
-pub struct Fed {
-    pub figures: Figures,
-    pub answer: Feeding,
 }

@@ -15,10 +15,7 @@ pub struct Mean {
 fn count_at(counts: &[u32], at: usize) -> u32
     ensures { result ≡ get_or counts.now at 0 }
 {
-    if at < counts.len() {
-        return counts[at];
-    }
-    0
+    counts.get(at).copied().unwrap_or(0)
 }
 
 impl Figures {
@@ -26,35 +23,28 @@ impl Figures {
     pub fn answered(self, number: usize) -> u32
         ensures { result ≡ get_or self.answers number 0 }
     {
-        let answers = self.answers;
-        count_at(&answers, number)
+        count_at(&self.answers, number)
     }
 
     // How many are of a weekday, from Monday, 0, on.
     pub fn on_weekday(self, day: usize) -> u32
         ensures { result ≡ get_or self.weekdays day 0 }
     {
-        let weekdays = self.weekdays;
-        count_at(&weekdays, day)
+        count_at(&self.weekdays, day)
     }
 
     // How many are of an hour of the day.
     pub fn in_hour(self, hour: usize) -> u32
         ensures { result ≡ get_or self.hours hour 0 }
     {
-        let hours = self.hours;
-        count_at(&hours, hour)
+        count_at(&self.hours, hour)
     }
 
     // The sum of the ages below zero, which is 0 or below; as far as the sum's limit.
     pub fn below_zero_sum(self) -> i64
         ensures { result ≡ below_sum self }
     {
-        let size = self.below;
-        if size > Figures::SUM {
-            return 0 - (Figures::SUM as i64);
-        }
-        0 - (size as i64)
+        -(self.below.min(Figures::SUM) as i64)
     }
 
     // The mean of the other ages as sum and count.

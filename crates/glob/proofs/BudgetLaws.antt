@@ -38,19 +38,6 @@ pub budget_is : (row n : ℕ) → IsProduct row n record { rows = n; used = 0 }
 unfolding worth
 budget_is row n = record { usable = omega arith; exact = omega arith }
 
-pub covers_all : {row n : ℕ} {b : Budget} → IsProduct row n b → Covers row (n - 0) n b
-covers_all {row} {n} w =
-    let k : n - 0 ≡ n = omega arith in
-    record { usable = w.usable; enough = rw k (omega (arith, w.exact)); most = omega (arith, w.exact) }
-
-pub covers_row : (row n all : ℕ) (b : Budget) → Covers row n all b → 0 < n → row ≤ worth row b
-covers_row row n all b c h = go (n - 1) (omega arith)
-  where
-    go : (m : ℕ) → n ≡ m + 1 → row ≤ worth row b
-    go m k =
-        let d : (m + 1) * row ≤ worth row b = rw k at c.enough in
-        omega (arith, d)
-
 -- a row less for one byte less
 pub covers_less : (row n m all d : ℕ) (b l : Budget) → n ≡ m + 1 → Usable row l → Covers row n all b → worth row b ≡ worth row l + d → d ≤ row → Covers row m all l
 covers_less row n m all d b l k u c h g =

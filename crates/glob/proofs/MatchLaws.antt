@@ -1,8 +1,8 @@
 -- The laws of the tokens of a pattern, at a place of it. Assumes nothing.
+use Rattle.std.specs.Prelude.{None, Option, Some}
 use mathlib.Core.Path.{◌≡◌, refl, sym, ◌∙◌}
 use mathlib.Core.Bool.{Bool, true, false, cond}
 use mathlib.Core.List.{List, [], ◌∷◌, ◌++◌, append-nil, append_assoc}
-use mathlib.Core.Option.{Option, none, some}
 use Prim.Native.Nat.{ℕ, ◌+◌, ◌-◌, ◌≤◌, ◌<◌}
 use native.Mathlib.Omega.{arith}
 use native.Mathlib.Decide.{dec_lt}
@@ -68,8 +68,8 @@ module _ (c : ℕ) (p : List ℕ) where
 
 -- behind the bracket of a set, by what is parted at its `]`
 abbrev tokens_in : List ℕ → Option Parts → List Token
-tokens_in body none = no_byte ∷ []
-tokens_in body (some q) = byte_of (body ++ q.front) ∷ tokens q.back
+tokens_in body None = no_byte ∷ []
+tokens_in body (Some q) = byte_of (body ++ q.front) ∷ tokens q.back
 
 set_tokens_law : (body s : List ℕ) → set_tokens body s ≡ tokens_in body (part_at 93 s)
 unfolding tokens part_at
@@ -78,8 +78,8 @@ set_tokens_law body (c ∷ s) = go (eqb c 93) refl (set_tokens_law (body ++ (c �
   where
     go : (t : Bool) → eqb c 93 ≡ t → set_tokens (body ++ (c ∷ [])) s ≡ tokens_in (body ++ (c ∷ [])) (part_at 93 s) → (o : Option Parts) → part_at 93 s ≡ o → set_tokens body (c ∷ s) ≡ tokens_in body (part_at 93 (c ∷ s))
     go true t e o q = rw (t, set_tokens) (rw (append-nil body))
-    go false t e none q = rw (t, set_tokens, q) (rw q at e)
-    go false t e (some x) q = rw (t, set_tokens, q) (rw q at e ∙ rw (append_assoc body (c ∷ []) x.front))
+    go false t e None q = rw (t, set_tokens, q) (rw q at e)
+    go false t e (Some x) q = rw (t, set_tokens, q) (rw q at e ∙ rw (append_assoc body (c ∷ []) x.front))
 
 tokens_set : (c : ℕ) (p : List ℕ) → sign_of c ≡ bracket → tokens (c ∷ p) ≡ tokens_in [] (part_at 93 p)
 unfolding tokens
@@ -93,8 +93,8 @@ escape_none (c ∷ p) = refl
 
 set_none : (o : Option Parts) → match_tokens (tokens_in [] o) [] ≡ false
 unfolding match_tokens
-set_none none = refl
-set_none (some q) = refl
+set_none None = refl
+set_none (Some q) = refl
 
 null_drop : (s : List ℕ) (j : ℕ) → j ≤ length s → null (drop j s) ≡ leb (length s) j
 null_drop s j h = elim (dec_lt j (length s)) [ yes g ↦ rw (next s j g, lt-leb _ _ g) | no g ↦ end (omega arith) ]

@@ -1,22 +1,24 @@
 -- The laws of matching by the last star only: a token, a try up to the next star, the tries behind one. Assumes nothing.
 use mathlib.Core.Path.{◌≡◌, refl, sym, ◌∙◌}
-use mathlib.Core.Bool.{Bool, true, false, cond, ◌&&◌}
+use mathlib.Core.Bool.{Bool, true, false, ◌&&◌}
 use mathlib.Core.List.{List, [], ◌∷◌}
 use mathlib.Core.Logic.{inl, inr}
 use Prim.Native.Nat.{ℕ, ◌+◌, ◌-◌, ◌≤◌, ◌<◌}
 use native.Mathlib.Numerals.{add-one}
 use native.Mathlib.Omega.{arith}
-use borrow.Author.Tests.{eq-eqb, ne_eqb, le-leb, lt-leb}
+use borrow.Author.Tests.{le-leb, lt-leb}
 use lib.Dec.{eqb}
 use lib.ListN.{length, drop, get_or, length-drop, drop_of_length-le}
 use lib.Seq.{drop-drop}
-use Rattle.text.specs.Lists.{any}
-use Rattle.text.proofs.Laws.{next, both_true, both_yes, either_no, either_of, either_true, false_of, same_test, pick_of, clash}
+use Rattle.text.proofs.Laws.{next, both_true, both_yes, either_no, either_of, either_true, false_of, same_test, clash, untrue}
 use Rattle.glob.specs.Set.{negates, in_set}
 use Rattle.glob.specs.Match.{Token, any_run, any_byte, no_byte, this_byte, byte_of, sign_of, star, tokens, tails, match_tokens, matches}
-use Rattle.glob.specs.Contract.{worth, Usable, OneLess, Covers, is_run, takes, tests_of, tests_at, TakesTo, TakesNot, matches_behind, Stars, Fails, FailsOn}
+use Rattle.std.specs.Prelude.{None, Option, Some}
+use Rattle.std.specs.Option.{is_some, unwrap_or}
+use Rattle.std.specs.Bool.{then_some}
+use Rattle.glob.specs.Contract.{Tests, worth, Usable, OneLess, Covers, is_run, takes, tests_of, tests_at, TakesTo, TakesNot, matches_behind, Stars, Fails, FailsOn}
 use Rattle.glob.specs.declared.matcher.Budget.{Budget}
-use Rattle.glob.proofs.BudgetLaws.{covers_row, covers_less, covers_on}
+use Rattle.glob.proofs.BudgetLaws.{covers_less, covers_on}
 use Rattle.glob.proofs.MatchLaws.{is_star, not_star, at_end_law, star_at, none_left}
 
 -- ---- a token that is no star
@@ -29,7 +31,7 @@ unfolding takes match_tokens
 set_takes t b = both_yes (in_set negates t b)
 
 token_matches : (t : Token) (q : List Token) (b : ℕ) (s : List ℕ) → is_run t ≡ false → match_tokens (t ∷ q) (b ∷ s) ≡ takes t b && match_tokens q s
-unfolding match_tokens is_run takes any tails
+unfolding match_tokens is_run takes tails
 token_matches any_run q b s e = clash cc
 token_matches any_byte q b s e = refl
 token_matches no_byte q b s e = refl
@@ -37,7 +39,7 @@ token_matches (this_byte c) q b s e = rw (both_yes (eqb c b))
 token_matches (byte_of t) q b s e = rw (both_yes (in_set negates t b))
 
 token_none : (t : Token) (q : List Token) → is_run t ≡ false → match_tokens (t ∷ q) [] ≡ false
-unfolding match_tokens is_run any tails
+unfolding match_tokens is_run tails
 token_none any_run q e = clash cc
 token_none any_byte q e = refl
 token_none no_byte q e = refl
@@ -54,35 +56,29 @@ module _ (t : Token) (q : List Token) (b : ℕ) (s : List ℕ) (n : is_run t ≡
   tests_off e = rw (n, e)
 
 -- ---- the token at a place, and a byte
-module _ {p : List ℕ} {i b : ℕ} {old new : Budget} (u : OneLess (length p) old new) where
-  pub no_byte_law : tokens (drop i p) ≡ no_byte ∷ [] → TakesNot p i b old new
+module _ (p : List ℕ) (i b : ℕ) where
+  pub no_byte_law : tokens (drop i p) ≡ no_byte ∷ [] → Tests p i b None
   unfolding is_run takes
-  no_byte_law e = record { token = no_byte; rest = []; here = e; no_star = refl; not_taken = refl; less = u }
+  no_byte_law e = record { token = no_byte; rest = []; here = e; no_star = refl; not_taken = refl }
 
-  module _ {k : ℕ} (l : i < k) (h : k ≤ length p) where
-    pub any_byte_law : tokens (drop i p) ≡ any_byte ∷ tokens (drop k p) → TakesTo p i b k old new
+  module _ (k : ℕ) (l : i < k) (h : k ≤ length p) where
+    pub any_byte_law : tokens (drop i p) ≡ any_byte ∷ tokens (drop k p) → Tests p i b (Some k)
     unfolding is_run takes
-    any_byte_law e = record { token = any_byte; ahead = l; high = h; here = e; no_star = refl; taken = refl; less = u }
+    any_byte_law e = record { token = any_byte; ahead = l; high = h; here = e; no_star = refl; taken = refl }
 
-    pub this_byte_law : (c : ℕ) → tokens (drop i p) ≡ this_byte c ∷ tokens (drop k p) → c ≡ b → TakesTo p i b k old new
+    pub this_byte_law : (c : ℕ) (r : Bool) → tokens (drop i p) ≡ this_byte c ∷ tokens (drop k p) → r ≡ eqb c b → Tests p i b (then_some r k)
     unfolding is_run
-    this_byte_law c e f = record { token = this_byte c; ahead = l; high = h; here = e; no_star = refl; taken = byte_takes c b ∙ eq-eqb _ _ f; less = u }
+    this_byte_law c true e f = record { token = this_byte c; ahead = l; high = h; here = e; no_star = refl; taken = byte_takes c b ∙ sym f }
+    this_byte_law c false e f = record { token = this_byte c; rest = tokens (drop k p); here = e; no_star = refl; not_taken = byte_takes c b ∙ sym f }
 
-    pub set_byte : (t : List ℕ) → tokens (drop i p) ≡ byte_of t ∷ tokens (drop k p) → in_set negates t b ≡ true → TakesTo p i b k old new
+    pub set_byte : (t : List ℕ) (r : Bool) → tokens (drop i p) ≡ byte_of t ∷ tokens (drop k p) → r ≡ in_set negates t b → Tests p i b (then_some r k)
     unfolding is_run
-    set_byte t e f = record { token = byte_of t; ahead = l; high = h; here = e; no_star = refl; taken = set_takes t b ∙ f; less = u }
-
-  pub other_byte : (c : ℕ) (q : List Token) → tokens (drop i p) ≡ this_byte c ∷ q → (c ≡ b → ⊥) → TakesNot p i b old new
-  unfolding is_run
-  other_byte c q e f = record { token = this_byte c; rest = q; here = e; no_star = refl; not_taken = byte_takes c b ∙ ne_eqb _ _ f; less = u }
-
-  pub outside : (t : List ℕ) (q : List Token) → tokens (drop i p) ≡ byte_of t ∷ q → in_set negates t b ≡ false → TakesNot p i b old new
-  unfolding is_run
-  outside t q e f = record { token = byte_of t; rest = q; here = e; no_star = refl; not_taken = set_takes t b ∙ f; less = u }
+    set_byte t true e f = record { token = byte_of t; ahead = l; high = h; here = e; no_star = refl; taken = set_takes t b ∙ sym f }
+    set_byte t false e f = record { token = byte_of t; rest = tokens (drop k p); here = e; no_star = refl; not_taken = set_takes t b ∙ sym f }
 
 -- ---- a star behind which nothing so short matches
 behind_none : (q : List ℕ) (n : ℕ) → ((t : List ℕ) → length t ≤ n → matches q t ≡ false) → (s : List ℕ) → length s ≤ n → matches_behind q s ≡ false
-unfolding matches_behind any tails
+unfolding matches_behind tails
 behind_none q n f [] h = rw (f [] h)
 behind_none q n f (a ∷ s) h = rw (f (a ∷ s) h) (behind_none q n f s (omega arith))
 
@@ -104,18 +100,7 @@ pub record Trying (p : List ℕ) (i : ℕ) (s : List ℕ) (j : ℕ) (b : Budget)
   pub same : matches (drop at p) (drop to s) ≡ matches (drop i p) (drop j s)
   pub later : (t : List ℕ) → matches (drop i p) t ≡ true → matches (drop at p) (drop (to - j) t) ≡ true
 
-pub try_begins : (p : List ℕ) (i : ℕ) (s : List ℕ) (j : ℕ) (b : Budget) → i ≤ length p → j ≤ length s → Usable (length p) b → Trying p i s j b i j b
-try_begins p i s j b h g u =
-    let z : j - j ≡ 0 = omega arith in
-    record { low = omega arith; high = h; begun = omega arith; most = g; usable = u; pace = omega arith; spent = refl; tests = refl; same = refl; later = λ t m. rw z m }
-
 module _ {p : List ℕ} {i : ℕ} {s : List ℕ} {j : ℕ} {b : Budget} {at to : ℕ} {left : Budget} (w : Trying p i s j b at to left) where
-  -- the budget is not spent
-  pub try_left : Covers (length p) (length s - j) (length s) b → at < length p → to < length s → worth (length p) left ≡ 0 → ⊥
-  try_left c h g z =
-      let r : length p ≤ worth (length p) b = covers_row (length p) (length s - j) (length s) b c (omega (arith, w.begun)) in
-      omega (arith, r, w.spent, w.pace, w.begun)
-
   pub try_whole : length p ≤ at → length s ≤ to → true ≡ matches (drop i p) (drop j s)
   try_whole h g = sym (le-leb _ _ g) ∙ at_end_law p s at to h w.most ∙ w.same
 
@@ -158,22 +143,22 @@ module _ {p : List ℕ} {i : ℕ} {s : List ℕ} {j : ℕ} {b : Budget} {at to :
         few : (t : List ℕ) → length t ≤ to - j → matches (drop i p) t ≡ false
         few t k = false_of _ (λ e. clash (let z : false ≡ true = sym (none_left p at h (not_star n)) ∙ rw (drop_of_length-le t k) at (w.later t e) in cc))
 
-    pub try_off : (less : Budget) → to < length s → TakesNot p at (get_or s to 0) left less → Fails p i s j b less
+    pub try_off : (less : Budget) → to < length s → OneLess (length p) left less → TakesNot p at (get_or s to 0) → Fails p i s j b less
     unfolding matches
-    try_off less g f =
+    try_off less g d f =
         let z : tests_at p at s to ≡ 1 = rw (f.here, next s to g) (tests_off f.token f.rest (get_or s to 0) (drop (to + 1) s) f.no_star f.not_taken) in
         let m : matches (drop at p) (drop to s) ≡ false = rw (f.here, next s to g) (token_matches f.token f.rest (get_or s to 0) (drop (to + 1) s) f.no_star ∙ rw f.not_taken) in
         record {
           more = omega (arith, w.begun);
-          usable = f.less.usable;
-          uses = omega (arith, w.spent, w.tests, w.begun, f.less.spent, z);
+          usable = d.usable;
+          uses = omega (arith, w.spent, w.tests, w.begun, d.spent, z);
           few = omega (arith, w.tests, w.pace, w.begun, z);
           same = sym m ∙ w.same;
         }
 
-    pub try_on : (less : Budget) (k : ℕ) → to < length s → TakesTo p at (get_or s to 0) k left less → Trying p i s j b k (to + 1) less
+    pub try_on : (less : Budget) (k : ℕ) → to < length s → OneLess (length p) left less → TakesTo p at (get_or s to 0) k → Trying p i s j b k (to + 1) less
     unfolding matches
-    try_on less k g f =
+    try_on less k g d f =
         let z : tests_at p at s to ≡ tests_at p k s (to + 1) + 1 = rw (f.here, next s to g) (tests_on f.token (tokens (drop k p)) (get_or s to 0) (drop (to + 1) s) f.no_star f.taken) in
         let m : matches (drop at p) (drop to s) ≡ matches (drop k p) (drop (to + 1) s) = rw (f.here, next s to g) (token_matches f.token (tokens (drop k p)) (get_or s to 0) (drop (to + 1) s) f.no_star ∙ rw f.taken) in
         record {
@@ -181,9 +166,9 @@ module _ {p : List ℕ} {i : ℕ} {s : List ℕ} {j : ℕ} {b : Budget} {at to :
           high = f.high;
           begun = omega (arith, w.begun);
           most = omega arith;
-          usable = f.less.usable;
+          usable = d.usable;
           pace = omega (arith, w.pace, f.ahead);
-          spent = omega (arith, w.spent, f.less.spent);
+          spent = omega (arith, w.spent, d.spent);
           tests = omega (arith, w.tests, z);
           same = sym m ∙ w.same;
           later = go;
@@ -200,17 +185,17 @@ module _ {p : List ℕ} {i : ℕ} {s : List ℕ} {j : ℕ} {b : Budget} {at to :
 
 -- ---- behind a star
 behind_here : (q s : List ℕ) → matches q s ≡ true → matches_behind q s ≡ true
-unfolding matches_behind any tails
+unfolding matches_behind tails
 behind_here q [] e = rw e
 behind_here q (a ∷ s) e = rw e
 
 behind_more : (q s : List ℕ) → matches_behind q (drop 1 s) ≡ true → matches_behind q s ≡ true
-unfolding matches_behind any tails
+unfolding matches_behind tails
 behind_more q [] e = e
 behind_more q (a ∷ s) e = either_of (matches q (a ∷ s)) _ e
 
 behind_later : (q r : List ℕ) (n : ℕ) → ((t : List ℕ) → matches q t ≡ true → matches_behind r (drop n t) ≡ true) → (s : List ℕ) → matches_behind q s ≡ true → matches_behind r (drop n s) ≡ true
-unfolding matches_behind any tails
+unfolding matches_behind tails
 behind_later q r n f [] e = f [] (sym (either_no (matches q [])) ∙ e)
 behind_later q r n f (a ∷ s) e = elim (either_true (matches q (a ∷ s)) _ e) [ inl h ↦ f (a ∷ s) h | inr h ↦ on (behind_later q r n f s h) ]
   where
@@ -219,37 +204,25 @@ behind_later q r n f (a ∷ s) e = elim (either_true (matches q (a ∷ s)) _ e) 
 
 -- a star that nothing follows takes whatever is left
 behind_end : (s : List ℕ) → matches_behind [] s ≡ true
-unfolding matches_behind any tails matches tokens match_tokens
+unfolding matches_behind tails matches tokens match_tokens
 behind_end [] = refl
 behind_end (a ∷ s) = behind_end s
 
 -- ---- the search
 -- what is looked for: the pattern itself, or, once a star was met, what follows the last one behind some run of bytes
-unfoldable pub sought : ℕ → List ℕ → List ℕ → Bool
-sought i q s = cond (eqb i 0) (matches q s) (matches_behind q s)
+abbrev pub sought : Option ℕ → List ℕ → List ℕ → Bool
+sought None q s = matches q s
+sought (Some i) q s = matches_behind q s
 
-pub sought_begins : (p s : List ℕ) → sought 0 (drop 0 p) (drop 0 s) ≡ matches p s
-unfolding sought
-sought_begins p s = refl
+-- where the pattern goes on: behind the last star
+abbrev pub from_star : Option ℕ → ℕ
+from_star o = unwrap_or o 0
 
-module _ (i : ℕ) (q s : List ℕ) where
-  pub sought_whole : true ≡ matches q s → true ≡ sought i q s
-  unfolding sought
-  sought_whole e = pick_of (λ r. true ≡ r) (eqb i 0) e (sym (behind_here q s (sym e)))
-
-  sought_behind : (i ≡ 0 → ⊥) → sought i q s ≡ matches_behind q s
-  unfolding sought
-  sought_behind n = rw (ne_eqb _ _ n)
-
-  sought_here : i ≡ 0 → sought i q s ≡ matches q s
-  unfolding sought
-  sought_here e = rw (eq-eqb _ _ e)
+pub sought_whole : (o : Option ℕ) (q s : List ℕ) → true ≡ matches q s → true ≡ sought o q s
+sought_whole None q s e = e
+sought_whole (Some i) q s e = sym (behind_here q s (sym e))
 
 module _ {p : List ℕ} {i : ℕ} {s : List ℕ} {j : ℕ} where
-  pub sought_short : FailsOn p i s j → false ≡ sought i (drop i p) (drop j s)
-  unfolding sought
-  sought_short w = pick_of (λ r. false ≡ r) (eqb i 0) w.here w.later
-
   module _ {b l : Budget} {k m : ℕ} (w : Stars p i s j k m b l) where
     -- what follows the next star: the one before it need not be gone back to
     behind_star : matches_behind (drop k p) (drop m s) ≡ matches_behind (drop i p) (drop j s)
@@ -260,34 +233,27 @@ module _ {p : List ℕ} {i : ℕ} {s : List ℕ} {j : ℕ} where
             let u : j + (m - j) ≡ m = omega (arith, w.low) in
             rw (drop-drop (m - j) j s, u) at (behind_later (drop i p) (drop k p) (m - j) w.later (drop j s) e)
 
-    star_sought : matches_behind (drop k p) (drop m s) ≡ sought i (drop i p) (drop j s)
-    unfolding sought
-    star_sought = pick_of (λ r. matches_behind (drop k p) (drop m s) ≡ r) (eqb i 0) w.same behind_star
+    -- what follows the next star is what is looked for from there on
+    pub sought_star : (o : Option ℕ) → matches_behind (drop k p) (drop m s) ≡ sought o (drop i p) (drop j s)
+    sought_star None = w.same
+    sought_star (Some n) = behind_star
 
-    pub sought_star : sought k (drop k p) (drop m s) ≡ sought i (drop i p) (drop j s)
-    sought_star = sought_behind k (drop k p) (drop m s) (λ e. omega (arith, w.ahead)) ∙ star_sought
-
-    pub sought_end : k ≡ length p → true ≡ sought i (drop i p) (drop j s)
-    sought_end e =
+    pub sought_end : (o : Option ℕ) → k ≡ length p → true ≡ sought o (drop i p) (drop j s)
+    sought_end o e =
         let h : length p ≤ k = omega arith in
-        sym (rw (drop_of_length-le p h) (behind_end (drop m s))) ∙ star_sought
+        sym (rw (drop_of_length-le p h) (behind_end (drop m s))) ∙ sought_star o
 
     pub covers_star : Covers (length p) (length s - j) (length s) b → Covers (length p) (length s - m) (length s) l
     covers_star c = covers_on (length p) (length s - j) (length s - m) (length s) (m - j) b l (omega (arith, w.low, w.most)) (omega (arith, w.ahead, w.high)) w.usable c (omega (arith, w.uses, w.tests))
 
   module _ {b l : Budget} (w : Fails p i s j b l) where
-    behind_next : matches_behind (drop i p) (drop (j + 1) s) ≡ matches_behind (drop i p) (drop j s)
-    unfolding matches_behind any tails
-    behind_next =
+    -- before the first star there is nothing to go back to
+    pub sought_next : (o : Option ℕ) → is_some o ≡ true → sought o (drop i p) (drop (j + 1) s) ≡ sought o (drop i p) (drop j s)
+    unfolding matches_behind tails
+    sought_next None e = untrue e
+    sought_next (Some k) e =
         let h : j < length s = w.more in
         rw (next s j h) (rw (← (rw (next s j h) at w.same)))
-
-    pub sought_next : (i ≡ 0 → ⊥) → sought i (drop i p) (drop (j + 1) s) ≡ sought i (drop i p) (drop j s)
-    sought_next n = sought_behind i (drop i p) (drop (j + 1) s) n ∙ behind_next ∙ sym (sought_behind i (drop i p) (drop j s) n)
-
-    -- before the first star there is nothing to go back to
-    pub sought_fails : i ≡ 0 → false ≡ sought i (drop i p) (drop j s)
-    sought_fails e = w.same ∙ sym (sought_here i (drop i p) (drop j s) e)
 
     pub covers_next : Covers (length p) (length s - j) (length s) b → Covers (length p) (length s - (j + 1)) (length s) l
     covers_next c = covers_less (length p) (length s - j) (length s - (j + 1)) (length s) (tests_at p i s j) b l (omega (arith, w.more)) w.usable c w.uses w.few

@@ -1,22 +1,10 @@
 -- What only contracts and proofs cite: the answers of the functions hold places, those of the definitions lists.
-use Rattle.std.specs.Prelude.{ℕ, suc, ◌+◌, ◌*◌, ◌-◌, ◌≤◌, ◌<◌, ◌≡◌, Bool, true, false, cond, List, [], ◌∷◌, length, drop, get_or}
-use Rattle.text.specs.Class.{range}
-use Rattle.text.specs.Lists.{any}
-use Rattle.glob.specs.Set.{ranges}
+use Rattle.std.specs.List.{list_any}
+use Rattle.std.specs.Prelude.{ℕ, suc, ◌+◌, ◌*◌, ◌-◌, ◌≤◌, ◌<◌, ◌≡◌, Bool, true, false, cond, List, [], ◌∷◌, length, drop, None, Option, Some}
 use Rattle.glob.specs.Match.{Token, tokens, tails, match_tokens, matches}
 use Rattle.glob.specs.declared.matcher.Budget.{Budget}
-use Rattle.glob.specs.declared.matcher.Spent.{Spent}
-use Rattle.glob.specs.declared.matcher.Spent.TheVariants.{Left, Nothing}
-use Rattle.glob.specs.declared.matcher.Tested.{Tested}
-use Rattle.glob.specs.declared.matcher.Tested.TheVariants.{Past, Off, Exhausted}
 use Rattle.glob.specs.declared.matcher.Tried.{Tried}
-use Rattle.glob.specs.declared.matcher.Tried.TheVariants.{Whole, Star, Off as Failed, Short, Exhausted as Spent-out}
-
--- r is where the range that begins at `at` ends
-pub record RangeAt (s : List ℕ) (at r : ℕ) : Type 0 where
-  pub low : at ≤ r
-  pub high : r < length s
-  pub reads : ranges (drop at s) ≡ range (get_or s at 0) (get_or s r 0) ∷ ranges (drop (r + 1) s)
+use Rattle.glob.specs.declared.matcher.Tried.TheVariants.{Whole, Star, Off, Short}
 
 -- ---- the search by the last star, and its budget (02 (iii))
 -- the tests that a budget is good for, where a row has so many
@@ -33,9 +21,9 @@ pub record OneLess (row : ℕ) (old new : Budget) : Type 0 where
   pub spent : worth row old ≡ worth row new + 1
 
 -- one test less, or nothing was left
-abbrev pub Spends : ℕ → Budget → Spent → Type 0
-Spends row b (Left l) = OneLess row b l
-Spends row b Nothing = worth row b ≡ 0
+abbrev pub Spends : ℕ → Budget → (Option Budget) → Type 0
+Spends row b (Some l) = OneLess row b l
+Spends row b None = worth row b ≡ 0
 
 -- the budget is the product: a row of tests for each of so many bytes, neither less nor more
 pub record IsProduct (row bytes : ℕ) (b : Budget) : Type 0 where
@@ -69,35 +57,32 @@ unfolding is_run takes
 tests_of [] s = 0
 tests_of (t ∷ p) s = cond (is_run t) 0 (tests_by t (tests_of p) s)
 
--- the token of p at i takes the byte b, and the next one begins at k; one test was used
-pub record TakesTo (p : List ℕ) (i b k : ℕ) (old new : Budget) : Type 0 where
+-- the token of p at i takes the byte b, and the next one begins at k
+pub record TakesTo (p : List ℕ) (i b k : ℕ) : Type 0 where
   pub token : Token
   pub ahead : i < k
   pub high : k ≤ length p
   pub here : tokens (drop i p) ≡ token ∷ tokens (drop k p)
   pub no_star : is_run token ≡ false
   pub taken : takes token b ≡ true
-  pub less : OneLess (length p) old new
 
--- the token of p at i does not take the byte; one test was used
-pub record TakesNot (p : List ℕ) (i b : ℕ) (old new : Budget) : Type 0 where
+-- the token of p at i does not take the byte
+pub record TakesNot (p : List ℕ) (i b : ℕ) : Type 0 where
   pub token : Token
   pub rest : List Token
   pub here : tokens (drop i p) ≡ token ∷ rest
   pub no_star : is_run token ≡ false
   pub not_taken : takes token b ≡ false
-  pub less : OneLess (length p) old new
 
 -- what a test of the byte b by the token of p at i comes to
-abbrev pub Tests : List ℕ → ℕ → ℕ → Budget → Tested → Type 0
-Tests p i b old (Past k l) = TakesTo p i b k old l
-Tests p i b old (Off l) = TakesNot p i b old l
-Tests p i b old Exhausted = worth (length p) old ≡ 0
+abbrev pub Tests : List ℕ → ℕ → ℕ → Option ℕ → Type 0
+Tests p i b (Some k) = TakesTo p i b k
+Tests p i b None = TakesNot p i b
 
 -- what a star matches that p follows: some run of bytes, and then what p matches
 unfoldable pub matches_behind : List ℕ → List ℕ → Bool
-unfolding any tails matches
-matches_behind p s = any (matches p) (tails s)
+unfolding tails matches
+matches_behind p s = list_any (matches p) (tails s)
 
 -- the tests of trying p from i on at the name's byte j
 abbrev pub tests_at : List ℕ → ℕ → List ℕ → ℕ → ℕ
@@ -134,9 +119,9 @@ pub record FailsOn (p : List ℕ) (i : ℕ) (s : List ℕ) (j : ℕ) : Type 0 wh
   pub later : false ≡ matches_behind (drop i p) (drop j s)
 
 -- what a try comes to; the budget is never spent
-abbrev pub Tries : List ℕ → ℕ → List ℕ → ℕ → Budget → Tried → Type 0
-Tries p i s j b Whole = true ≡ matches (drop i p) (drop j s)
-Tries p i s j b (Star k m l) = Stars p i s j k m b l
-Tries p i s j b (Failed l) = Fails p i s j b l
-Tries p i s j b Short = FailsOn p i s j
-Tries p i s j b Spent-out = ⊥
+abbrev pub Tries : List ℕ → ℕ → List ℕ → ℕ → Budget → Option Tried → Type 0
+Tries p i s j b (Some Whole) = true ≡ matches (drop i p) (drop j s)
+Tries p i s j b (Some (Star k m l)) = Stars p i s j k m b l
+Tries p i s j b (Some (Off l)) = Fails p i s j b l
+Tries p i s j b (Some Short) = FailsOn p i s j
+Tries p i s j b None = ⊥

@@ -1,7 +1,8 @@
 -- What a brace-free pattern matches (01: "`*` any run of bytes, slash too; `?` one byte", sets, "`\c` is c").
+use Rattle.std.specs.List.{list_any}
 use Rattle.std.specs.Prelude.{ℕ, Bool, true, false, cond, ◌&&◌, List, [], ◌∷◌, ◌++◌, eqb}
 use Rattle.text.specs.Bytes.{is}
-use Rattle.text.specs.Lists.{null, any}
+use Rattle.text.specs.Lists.{null}
 use Rattle.glob.specs.Set.{negates, in_set}
 
 -- what a brace-free pattern is made of; nothing matches an open set or a last backslash
@@ -48,9 +49,9 @@ tails (a ∷ s) = (a ∷ s) ∷ tails s
 
 -- the tokens match the whole of a name
 unfoldable pub match_tokens : List Token → List ℕ → Bool
-unfolding any tails in_set
+unfolding tails in_set
 match_tokens [] s = null s
-match_tokens (any_run ∷ p) s = any (match_tokens p) (tails s)
+match_tokens (any_run ∷ p) s = list_any (match_tokens p) (tails s)
 match_tokens (any_byte ∷ p) s = one_byte (λ _. true) (match_tokens p) s
 match_tokens (no_byte ∷ p) s = false
 match_tokens (this_byte c ∷ p) s = one_byte (eqb c) (match_tokens p) s

@@ -1,8 +1,9 @@
 -- Sets (01: "`[a-z]`, `[!a-z]`, not empty, closed by the first `]`, read left to right, `x-y` a range (x not above y) unless y is that `]`, all else plain").
+use Rattle.std.specs.List.{list_all, list_any}
 use Rattle.std.specs.Prelude.{ℕ, Bool, not, cond, ◌&&◌, List, [], ◌∷◌, leb, drop}
 use Rattle.text.specs.Bytes.{byte, is}
 use Rattle.text.specs.Class.{Range, range, in_range}
-use Rattle.text.specs.Lists.{null, all, any}
+use Rattle.text.specs.Lists.{null}
 use Rattle.text.specs.Slice.{head_is}
 
 -- the ranges of a set's bytes, read left to right; a plain byte is a range of one
@@ -27,13 +28,12 @@ rising r = leb r.low r.high
 
 -- 01: not empty, and no range runs backwards
 unfoldable pub good_set : (mark : ℕ) → List ℕ → Bool
-unfolding members all
-good_set mark body = not (null (members mark body)) && all rising (members mark body)
+unfolding members
+good_set mark body = not (null (members mark body)) && list_all rising (members mark body)
 
 -- the byte is in one of the ranges
 unfoldable pub covered : List Range → ℕ → Bool
-unfolding any
-covered rs b = any (λ r. in_range r b) rs
+covered rs b = list_any (λ r. in_range r b) rs
 
 -- the set with these bytes between its brackets holds b; the mark in front negates
 unfoldable pub in_set : (mark : ℕ) → List ℕ → ℕ → Bool

@@ -14,84 +14,43 @@ pub struct Budget {
     pub used: usize,
 }
 
-// What one test more leaves.
-#[derive(Drop)]
-pub enum Spent {
-    Left(Budget),
-    Nothing,
-}
-
 // One test less, where a row has so many.
-fn spend(budget: Budget, row: usize) -> Spent
+fn spend(budget: Budget, row: usize) -> Option<Budget>
     requires { (0 < row) × Usable row budget }
     ensures { Spends row budget result }
 {
     if budget.rows == 0 {
-        return Spent::Nothing;
+        return None;
     }
     if budget.used < row {
-        return Spent::Left(Budget {
-            rows: budget.rows,
+        return Some(Budget {
             used: budget.used + 1,
+            ..budget
         });
     }
     if budget.rows == 1 {
-        return Spent::Nothing;
+        return None;
     }
-    Spent::Left(Budget {
+    Some(Budget {
         rows: budget.rows - 1,
         used: 1,
     })
 }
 
-// What a test of a byte by a token comes to.
-#[derive(Drop)]
-pub enum Tested {
-    // The token takes the byte: where the next one begins, and what is left of the budget.
-    Past(usize, Budget),
-    // It does not take it.
-    Off(Budget),
-    // The budget was spent before.
-    Exhausted,
-}
-
-// Whether the token that begins at `i`, which is no star, takes the byte. It uses one of the budget.
-fn test_byte(p: &[u8], i: usize, b: u8, budget: Budget) -> Tested
-    requires { (i < length p.now) × (get_or p.now i 0 ≡ 42 → ⊥) × Usable (length p.now) budget }
-    ensures { Tests p.now i b budget result }
+// Where the next token begins, where the token that begins at `i`, which is no star, takes the byte.
+fn past_token(p: &[u8], i: usize, b: u8) -> Option<usize>
+    requires { (i < length p.now) × (get_or p.now i 0 ≡ 42 → ⊥) }
+    ensures { Tests p.now i b result }
 {
-    match spend(budget, p.len()) {
-        Spent::Left(left) => {
-            let c = p[i];
-            let k = i + 1;
-            if c == b'?' {
-                return Tested::Past(k, left);
-            }
-            if c == b'\\' {
-                if p.len() <= k {
-                    return Tested::Off(left);
-                }
-                if p[k] == b {
-                    return Tested::Past(k + 1, left);
-                }
-                return Tested::Off(left);
-            }
-            if c == b'[' {
-                let e = set::close(p, k);
-                if p.len() <= e {
-                    return Tested::Off(left);
-                }
-                if set::in_set(set::NEGATES, &p[k..e], b) {
-                    return Tested::Past(e + 1, left);
-                }
-                return Tested::Off(left);
-            }
-            if c == b {
-                return Tested::Past(k, left);
-            }
-            Tested::Off(left)
+    let k = i + 1;
+    match p[i] {
+        b'?' => Some(k),
+        b'\\' => (k < p.len() && p[k] == b).then_some(k + 1),
+        b'[' => {
+            let end = set::close(p, k);
+            (end < p.len() && set::in_set(set::NEGATES, &p[k..end], b)).then_some(end + 1)
         }
-        Spent::Nothing => Tested::Exhausted,
+        c => (c == b).then_some(k),
     }
 }
 
@@ -106,43 +65,36 @@ pub enum Tried {
     Off(Budget),
     // The name ends before the pattern does: it matches neither here nor at a later byte.
     Short,
-    // The budget is spent, and the pattern is said not to match. It never comes to that: the contract of `try_at` has ⊥ here.
-    Exhausted,
 }
 
-// Tries the pattern from `i` on at the name's byte `j`, up to the next star and without going back.
-fn try_at(p: &[u8], i: usize, name: &[u8], j: usize, budget: Budget) -> Tried
+// Tries the pattern from `i` on at the name's byte `j`, up to the next star and without going back. Each test of a byte uses
+// one of the budget; none where it is spent, which the contract excludes.
+fn try_at(p: &[u8], i: usize, name: &[u8], j: usize, budget: Budget) -> Option<Tried>
     requires { (i ≤ length p.now) × (j ≤ length name.now) × Covers (length p.now) (length name.now - j) (length name.now) budget }
     ensures { Tries p.now i name.now j budget result }
 {
     let mut at = i;
     let mut to = j;
     let mut left = budget;
+    // Stays a while: the step is the length of a token.
     while at < p.len() {
         if p[at] == b'*' {
-            return Tried::Star(at + 1, to, left);
+            return Some(Tried::Star(at + 1, to, left));
         }
         if name.len() <= to {
-            return Tried::Short;
+            return Some(Tried::Short);
         }
-        match test_byte(p, at, name[to], left) {
-            Tested::Past(next, less) => {
-                at = next;
-                to += 1;
-                left = less;
-            }
-            Tested::Off(less) => {
-                return Tried::Off(less);
-            }
-            Tested::Exhausted => {
-                return Tried::Exhausted;
-            }
-        }
+        left = spend(left, p.len())?;
+        let Some(next) = past_token(p, at, name[to]) else {
+            return Some(Tried::Off(left));
+        };
+        at = next;
+        to += 1;
     }
     if name.len() <= to {
-        return Tried::Whole;
+        return Some(Tried::Whole);
     }
-    Tried::Off(left)
+    Some(Tried::Off(left))
 }
 
 // Whether the pattern matches the whole name, with a budget that is the product of their lengths. What follows the last star
@@ -152,34 +104,32 @@ fn search(p: &[u8], name: &[u8], budget: Budget) -> bool
     requires { IsProduct (length p.now) (length name.now) budget }
     ensures { result ≡ matches p.now name.now }
 {
-    // Behind the last star, or 0 before the first one.
-    let mut star = 0;
+    // Behind the last star.
+    let mut star = None;
     let mut from = 0;
     let mut left = budget;
+    // Stays a loop: the place and the star move by what the try tells.
     loop {
-        match try_at(p, star, name, from, left) {
-            Tried::Whole => {
+        match try_at(p, star.unwrap_or(0), name, from, left) {
+            Some(Tried::Whole) => {
                 return true;
             }
-            Tried::Star(next, to, less) => {
+            Some(Tried::Star(next, to, less)) => {
                 if next == p.len() {
                     return true;
                 }
-                star = next;
+                star = Some(next);
                 from = to;
                 left = less;
             }
-            Tried::Off(less) => {
-                if star == 0 {
+            Some(Tried::Off(less)) => {
+                if star.is_none() {
                     return false;
                 }
                 from += 1;
                 left = less;
             }
-            Tried::Short => {
-                return false;
-            }
-            Tried::Exhausted => {
+            Some(Tried::Short) | None => {
                 return false;
             }
         }

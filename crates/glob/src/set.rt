@@ -1,12 +1,13 @@
 // The bytes between the brackets of a set.
+ghost use Rattle.std.specs.List.{list_all};
 ghost use Rattle.std.specs.Prelude.{◌≡◌, ◌+◌, ◌≤◌, ◌<◌, length, drop};
-ghost use Rattle.text.specs.Class.{range, in_range};
-ghost use Rattle.text.specs.Lists.{all};
+ghost use Rattle.std.specs.Iterator.{YieldsFirstBy, item_count};
+ghost use Rattle.text.specs.Class.{range};
 ghost use Rattle.glob.specs.Set.{ranges, rising, covered, good_set, in_set};
 ghost use Rattle.text.specs.Contract.{lead};
-ghost use Rattle.glob.specs.Contract.{RangeAt};
 
-use text::slice::{byte_from, past_head};
+use text::class::is_within;
+use text::slice::{byte_from, head_is, past_head};
 
 // The mark that negates a set, in front of its members.
 pub const NEGATES: u8 = b'!';
@@ -18,57 +19,42 @@ pub fn close(p: &[u8], at: usize) -> usize
     byte_from(p, at, b']')
 }
 
-// Where the range that begins at `at` ends: a plain byte is a range of one.
-fn range_end(body: &[u8], at: usize) -> usize
-    requires { at < length body.now }
-    ensures { RangeAt body.now at result }
-{
-    if body.len() - at < 3 {
-        return at;
+// The ranges of a set's members, read left to right; a plain byte is a range of one.
+#[derive(Drop)]
+pub struct Ranges<'a>(pub &'a [u8]);
+
+impl<'a> Iterator for Ranges<'a> {
+    // From the first to the second, both counted.
+    type Item = (u8, u8);
+
+    ghost next_gives = { YieldsFirstBy (λ r. range r.0 r.1) (λ s. ranges s.0.now) };
+
+    ghost remaining = { item_count (λ s. ranges s.0.now) };
+
+    fn next(&mut self) -> Option<(u8, u8)> {
+        let s = self.0;
+        let low = *s.first()?;
+        if s.len() > 2 && s[1] == b'-' {
+            self.0 = &s[3..];
+            return Some((low, s[2]));
+        }
+        self.0 = &s[1..];
+        Some((low, low))
     }
-    if body[at + 1] == b'-' {
-        return at + 2;
-    }
-    at
 }
 
 // Whether no range runs backwards.
 fn in_order(body: &[u8]) -> bool
-    ensures { result ≡ all rising (ranges body.now) }
+    ensures { result ≡ list_all rising (ranges body.now) }
 {
-    let mut i = 0;
-    while i < body.len() {
-        let end = range_end(body, i);
-        if body[end] < body[i] {
-            return false;
-        }
-        i = end + 1;
-    }
-    true
-}
-
-fn is_between(low: u8, high: u8, b: u8) -> bool
-    ensures { result ≡ in_range (range low high) b }
-{
-    if low <= b {
-        return b <= high;
-    }
-    false
+    Ranges(body).all(|(low, high)| low <= high)
 }
 
 // Whether a range holds the byte.
 fn in_ranges(body: &[u8], b: u8) -> bool
     ensures { result ≡ covered (ranges body.now) b }
 {
-    let mut i = 0;
-    while i < body.len() {
-        let end = range_end(body, i);
-        if is_between(body[i], body[end], b) {
-            return true;
-        }
-        i = end + 1;
-    }
-    false
+    Ranges(body).any(|(low, high)| is_within(low, high, b))
 }
 
 // Whether the set has members, behind a mark that negates it, and its ranges are in order.
@@ -76,19 +62,12 @@ pub fn good_set(mark: u8, body: &[u8]) -> bool
     ensures { result ≡ good_set mark body.now }
 {
     let from = past_head(body, mark);
-    if body.len() <= from {
-        return false;
-    }
-    in_order(&body[from..])
+    from < body.len() && in_order(&body[from..])
 }
 
 // Whether the set, which a mark in front negates, holds the byte.
 pub fn in_set(mark: u8, body: &[u8], b: u8) -> bool
     ensures { result ≡ in_set mark body.now b }
 {
-    let from = past_head(body, mark);
-    if from == 1 {
-        return !in_ranges(&body[from..], b);
-    }
-    in_ranges(&body[from..], b)
+    head_is(body, mark) != in_ranges(&body[past_head(body, mark)..], b)
 }

@@ -1,30 +1,24 @@
 -- The fields that a buffer and ends tell, by their number, and the kind of line that they make.
 use mathlib.Core.Path.{◌≡◌, refl, sym, ap, ◌∙◌}
-use mathlib.Core.Bool.{Bool, cond}
+use mathlib.Core.Bool.{true, false, cond}
 use mathlib.Core.List.{List, [], ◌∷◌}
 use Prim.Native.Nat.{ℕ, zero, suc, ◌-◌, ◌≤◌, ◌<◌, min}
 use native.Mathlib.Omega.{arith}
 use native.Mathlib.Decide.{dec_le}
-use borrow.Author.Tests.{le-leb, lt-leb}
-use lib.Dec.{eqb}
+use borrow.Author.Tests.{le-leb}
 use lib.ListN.{length, take, drop, get_or, length-drop, drop_of_length-le, get_or-eq_default}
 use lib.Seq.{take-nil}
-use Rattle.text.specs.Bytes.{is}
+use Rattle.text.specs.Slice.{head_is}
 use Rattle.text.proofs.Laws.{next_of, take_min}
 use Rattle.line.specs.declared.kind.LineKind.TheVariants.{NoField, Colon, Entry}
-use Rattle.line.specs.Joined.{begins}
 use Rattle.line.specs.Kind.{kind_of_line}
 use Rattle.line.specs.Contract.{fields_at, fields_in, field_start}
-use Rattle.line.proofs.JoinedLaws.{begins_some, begins_none}
+use Rattle.line.proofs.JoinedLaws.{begins_head}
 
 -- ---- where a field begins
 pub start_within : (ends : List ℕ) (i : ℕ) → i ≤ 64 → get_or (0 ∷ ends) i 0 ≡ field_start ends i
 unfolding field_start
 start_within ends i h = rw (le-leb i 64 h)
-
-pub start_past : (ends : List ℕ) (i : ℕ) → 64 < i → 0 ≡ field_start ends i
-unfolding field_start
-start_past ends i h = rw (lt-leb i 64 h)
 
 -- ---- a field by its number
 at_none : (t : List ℕ) (start n i : ℕ) → get_or (fields_at t start [] n) i [] ≡ []
@@ -80,17 +74,16 @@ module _ (text ends : List ℕ) (count : ℕ) where
     field_part h = at_number text 0 ends (min count 64) i h
 
     -- ---- the kind of line
-    pub kind_none : min count 64 ≤ i → NoField ≡ kind_of_line (drop i (fields_in text ends count))
+    pub kind_none : min count 64 ≤ i → kind_of_line (drop i (fields_in text ends count)) ≡ NoField
     unfolding kind_of_line
     kind_none h = let k : length (fields_in text ends count) ≤ i = omega (arith, fields_count) in rw (drop_of_length-le (fields_in text ends count) k)
 
-    kind_by_law : {t : Bool} → i < min count 64 → begins (is ":") (get_or (fields_in text ends count) i []) ≡ t → cond t Colon Entry ≡ kind_of_line (drop i (fields_in text ends count))
+    kind_by : i < min count 64 → kind_of_line (drop i (fields_in text ends count)) ≡ cond (head_is 58 (get_or (fields_in text ends count) i [])) Colon Entry
     unfolding kind_of_line
-    kind_by_law h e = let l : i < length (fields_in text ends count) = omega (arith, fields_count) in rw (next_of [] (fields_in text ends count) i l, e)
+    kind_by h = let l : i < length (fields_in text ends count) = omega (arith, fields_count) in rw (next_of [] (fields_in text ends count) i l, begins_head 58 (get_or (fields_in text ends count) i []))
 
-    module _ {f : List ℕ} (h : i < min count 64) (e : f ≡ get_or (fields_in text ends count) i []) where
-      pub kind_some : {t : Bool} → 0 < length f → eqb (get_or f 0 0) 58 ≡ t → cond t Colon Entry ≡ kind_of_line (drop i (fields_in text ends count))
-      kind_some l k = kind_by_law h (ap (begins (is ":")) (sym e) ∙ begins_some (is ":") f l ∙ k)
+    pub kind_colon : i < min count 64 → head_is 58 (get_or (fields_in text ends count) i []) ≡ true → kind_of_line (drop i (fields_in text ends count)) ≡ Colon
+    kind_colon h e = kind_by h ∙ rw e
 
-      pub kind_empty : length f ≤ 0 → Entry ≡ kind_of_line (drop i (fields_in text ends count))
-      kind_empty l = kind_by_law h (ap (begins (is ":")) (sym e) ∙ begins_none (is ":") f l)
+    pub kind_entry : i < min count 64 → head_is 58 (get_or (fields_in text ends count) i []) ≡ false → kind_of_line (drop i (fields_in text ends count)) ≡ Entry
+    kind_entry h e = kind_by h ∙ rw e

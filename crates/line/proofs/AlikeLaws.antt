@@ -1,26 +1,24 @@
 -- Two folds over the lines of a text that do the same on each line. Assumes nothing.
+use Rattle.std.specs.Prelude.{Option, Result}
+use Rattle.std.specs.List.{list_all}
 use mathlib.Core.Path.{◌≡◌, refl, sym, ap, ◌∙◌}
 use mathlib.Core.Bool.{Bool, true, false, not, not-not}
 use mathlib.Core.List.{List, [], ◌∷◌}
-use mathlib.Core.Option.{Option}
 use Prim.Native.Nat.{ℕ}
-use Rattle.text.specs.Lists.{all}
 use Rattle.text.proofs.Laws.{both_true}
-use Rattle.fault.specs.Fault.{Reading}
 use Rattle.fault.proofs.Readings.{Each}
 use Rattle.fault.proofs.Alike.{then_alike}
 use Rattle.line.specs.Line.{Line, lines_of}
 use Rattle.line.specs.Fold.{Located, refusing, run, outcome}
 
 -- what holds of every element that fails a test holds of each element of a list that all fail it
-pub each_failing : {A : Type 0} {P : A → Type 0} (test : A → Bool) → ((x : A) → test x ≡ false → P x) → (xs : List A) → all (λ x. not (test x)) xs ≡ true → Each P xs
-unfolding all
+pub each_failing : {A : Type 0} {P : A → Type 0} (test : A → Bool) → ((x : A) → test x ≡ false → P x) → (xs : List A) → list_all (λ x. not (test x)) xs ≡ true → Each P xs
 each_failing test h [] e = tt
 each_failing test h (x ∷ xs) e =
-    let u = both_true (not (test x)) (all (λ y. not (test y)) xs) e in
+    let u = both_true (not (test x)) (list_all (λ y. not (test y)) xs) e in
     (h x (sym (not-not (test x)) ∙ ap not u.0), each_failing test h xs u.1)
 
-module _ {F S : Type 0} (step other : S → Line → Reading (Located F) S) where
+module _ {F S : Type 0} (step other : S → Line → Result S (Located F)) where
   -- the same from every state
   abbrev pub Same : Line → Type 0
   Same l = (s : S) → step s l ≡ other s l

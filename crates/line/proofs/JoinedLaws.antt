@@ -1,4 +1,9 @@
 -- The joined line and the indents, from a place of the line on.
+use Rattle.std.specs.List.{position, position_or_len}
+use Rattle.std.specs.Option.{unwrap_or}
+use Rattle.std.specs.Prelude.{None, Option, Some}
+use Rattle.std.proofs.lemmas.List.Recursion.{is_position_or_len}
+use Rattle.std.proofs.lemmas.List.Sums.{prefix_len-le-length}
 use mathlib.Core.Path.{◌≡◌, refl, sym, ap, ◌∙◌}
 use mathlib.Core.Bool.{Bool, true, false, not, cond, ◌&&◌}
 use mathlib.Core.Logic.{inl, inr}
@@ -7,33 +12,23 @@ use Prim.Native.Nat.{ℕ, zero, suc, ◌+◌, ◌-◌, ◌≤◌, ◌<◌}
 use native.Mathlib.Omega.{arith}
 use native.Mathlib.Decide.{dec_le}
 use native.Mathlib.Numerals.{add-one}
-use borrow.Author.Tests.{eqb-true, ne_eqb, eq-eqb}
-use lib.Dec.{eqb}
-use lib.ListN.{length, take, drop, get_or, drop_of_length-le}
+use borrow.Author.Tests.{eqb-true, ne_eqb, le-ltb, lt-ltb}
+use lib.Dec.{eqb, ltb}
+use lib.ListN.{length, take, drop, get_or, length-drop, drop_of_length-le}
 use lib.Seq.{drop-cons, drop-drop, get_or-drop}
 use Rattle.text.specs.Bytes.{byte, is}
 use Rattle.text.specs.Class.{blank}
 use Rattle.text.specs.Contract.{lead}
-use Rattle.text.proofs.Laws.{next, clash, both_no, both_true, either_true}
+use Rattle.text.specs.Slice.{head_is}
+use Rattle.text.proofs.Laws.{next, part_rest, clash, both_no, both_true, either_true}
 use Rattle.line.specs.Joined.{Mode, JoinedByte, begins, leading, gives, joins, join_blank, mode_after, mode_joined, joined_from, indented}
 use Rattle.line.specs.Contract.{joins_at, joined_at}
 
 -- ---- at the first byte
-pub begins_some : (f : ℕ → Bool) (s : List ℕ) → 0 < length s → begins f s ≡ f (get_or s 0 0)
-begins_some f [] h = absurd (omega arith)
-begins_some f (b ∷ s) h = refl
-
-pub first_some : (s : List ℕ) → 0 < length s → get_or s 0 0 ≡ get_or s 0 10
-first_some [] h = absurd (omega arith)
-first_some (b ∷ s) h = refl
-
-pub first_none : (s : List ℕ) → length s ≤ 0 → 10 ≡ get_or s 0 10
-first_none [] h = refl
-first_none (b ∷ s) h = absurd (omega arith)
-
-pub begins_none : (f : ℕ → Bool) (s : List ℕ) → length s ≤ 0 → begins f s ≡ false
-begins_none f [] h = refl
-begins_none f (b ∷ s) h = absurd (omega arith)
+pub begins_head : (c : ℕ) (s : List ℕ) → begins (λ b. eqb b c) s ≡ head_is c s
+unfolding head_is
+begins_head c [] = refl
+begins_head c (b ∷ s) = refl
 
 -- no byte but a backslash joins
 no_join : (b : ℕ) (s : List ℕ) → is "\\" b ≡ false → joins b s ≡ false
@@ -54,24 +49,8 @@ joined_skip hash zero m before s = refl
 joined_skip hash (suc n) m before [] = refl
 joined_skip hash (suc n) m before (b ∷ s) = joined_skip hash n m b s
 
--- ---- the tests at a place
-module _ (x : ℕ) (s : List ℕ) (i : ℕ) where
-  pub before_some : 0 < i → get_or s (i - 1) 0 ≡ get_or (x ∷ s) i 0
-  before_some h = let z : i ≡ suc (i - 1) = omega arith in ap (λ (k : ℕ). get_or (x ∷ s) k 0) (sym z)
-
-  pub before_none : i ≤ 0 → x ≡ get_or (x ∷ s) i 0
-  before_none h = let z : i ≡ 0 = omega arith in rw z
-
+-- ---- at a place
 module _ (line : List ℕ) (i : ℕ) (h : i < length line) where
-  pub joins_not : (get_or line i 0 ≡ 92 → ⊥) → false ≡ joins_at (drop i line)
-  joins_not e = rw (next line i h, ne_eqb (get_or line i 0) 92 e)
-
-  pub joins_by : get_or line i 0 ≡ 92 → i + 1 < length line → eqb (get_or line (i + 1) 0) 10 ≡ joins_at (drop i line)
-  joins_by e k = rw (next line i h, eq-eqb (get_or line i 0) 92 e, next line (i + 1) k)
-
-  pub joins_end : get_or line i 0 ≡ 92 → length line ≤ i + 1 → false ≡ joins_at (drop i line)
-  joins_end e k = rw (next line i h, eq-eqb (get_or line i 0) 92 e, drop_of_length-le line k)
-
   -- a join has its newline in the line
   pub joins_room : joins_at (drop i line) ≡ true → i + 2 ≤ length line
   joins_room e = elim (dec_le (length line) (i + 1)) [ yes k ↦ none k | no k ↦ omega arith ]
@@ -81,21 +60,34 @@ module _ (line : List ℕ) (i : ℕ) (h : i < length line) where
 
 -- ---- how many bytes pass, from a place on
 module _ (f : ℕ → Bool) (s : List ℕ) (i : ℕ) where
-  pub leading_on : i < length s → f (get_or s i 0) ≡ true → i + 1 + leading f (drop (i + 1) s) ≡ i + leading f (drop i s)
-  unfolding leading
-  leading_on h t = rw (next s i, t) (omega arith)
-
-  pub leading_stop : i < length s → f (get_or s i 0) ≡ false → i ≡ i + leading f (drop i s)
-  unfolding leading
-  leading_stop h t = rw (next s i, t) (omega arith)
-
   pub leading_some : i < length s → f (get_or s i 0) ≡ true → 0 < leading f (drop i s)
   unfolding leading
   leading_some h t = rw (next s i, t) (omega arith)
 
-  pub leading_end : length s ≤ i → i ≡ i + leading f (drop i s)
+-- they end where the first stands that does not pass, or with the bytes
+module _ (f : ℕ → Bool) (s : List ℕ) where
+  leading_before : leading f s ≡ position_or_len (λ b. not (f b)) s
   unfolding leading
-  leading_end h = rw (drop_of_length-le s) (omega arith)
+  leading_before = is_position_or_len (leading f) (λ b. not (f b)) refl (λ b r. by (f b) (leading f r)) s
+    where
+      by : (t : Bool) (n : ℕ) → cond t (suc n) 0 ≡ cond (not t) 0 (1 + n)
+      by true n = omega arith
+      by false n = refl
+
+  leading_within : leading f s ≤ length s
+  leading_within = rw leading_before (prefix_len-le-length _ s)
+
+  leading_position : unwrap_or (position (λ b. not (f b)) s) (length s) ≡ leading f s
+  leading_position = rw leading_before (by (position_or_len (λ b. not (f b)) s) (prefix_len-le-length _ s))
+    where
+      by : (p : ℕ) → p ≤ length s → unwrap_or (cond (ltb p (length s)) (Some p) None) (length s) ≡ p
+      by p h = elim (dec_le (length s) p) [ yes k ↦ rw (le-ltb p (length s) k) (omega arith) | no k ↦ rw (lt-ltb p (length s) (omega arith)) ]
+
+-- where those from a place on end
+pub run_ends : (f : ℕ → Bool) (s : List ℕ) (from : ℕ) {r : Option ℕ} {n : ℕ} → from ≤ length s → r ≡ position (λ b. not (f b)) (take (length s - from) (drop from s)) → n ≡ unwrap_or r (length (take (length s - from) (drop from s))) → (from + n ≡ from + leading f (drop from s)) × (from ≤ from + n) × (from + n ≤ length s)
+run_ends f s from {r} {n} h e g =
+    let z : n ≡ leading f (drop from s) = g ∙ rw (e, part_rest from s) (leading_position f (drop from s)) in
+    (rw z, omega arith, omega (arith, leading_within f (drop from s), length-drop from s))
 
 -- the bytes in front of the first c are those that pass where c does not
 pub lead_leading : (c : ℕ) (s : List ℕ) → lead c s ≡ leading (λ b. not (eqb b c)) s
@@ -107,7 +99,7 @@ lead_leading c (b ∷ s) = go (eqb b c) (lead_leading c s)
     go true e = refl
     go false e = ap suc e
 
--- ---- at a place
+-- ---- the joined line at a place
 joined_over : (hash : Bool) (m : Mode) (line : List ℕ) (i n : ℕ) → i ≤ length line → joined_from hash n m (get_or (byte "\n" ∷ line) i 0) (drop i line) ≡ joined_at hash m line (i + n)
 joined_over hash m line i n h =
     let k : i < length (byte "\n" ∷ line) = omega arith in

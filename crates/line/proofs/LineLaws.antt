@@ -1,4 +1,5 @@
 -- The lines of a text, and of a text that is cut. Assumes nothing.
+use Rattle.std.specs.List.{list_any}
 use mathlib.Core.Path.{◌≡◌, refl, sym, ap, ◌∙◌}
 use mathlib.Core.Bool.{Bool, true, false, not, cond, ◌&&◌, ◌||◌}
 use mathlib.Core.List.{List, [], ◌∷◌}
@@ -8,7 +9,7 @@ use native.Mathlib.Decide.{dec_le}
 use borrow.Author.Tests.{le-leb, lt-leb, le-ltb, lt-ltb, eqb-true, eqb-false}
 use lib.Dec.{eqb, ltb}
 use lib.ListN.{length, take, length-take}
-use Rattle.text.specs.Lists.{any, with_byte}
+use Rattle.text.specs.Lists.{with_byte}
 use Rattle.text.proofs.Laws.{clash, either_false}
 use Rattle.line.specs.Line.{Line, ends_line, ended_lines, last_ends, cut_short, newlines, placed, lines_of, not_above, last_end, cut_place, ends_at}
 
@@ -87,10 +88,9 @@ lines_cut continues n t = let z : 0 + n ≡ n = omega arith in ap (placed 0 1) (
 module _ (n : ℕ) where
   -- some line ends at n
   abbrev some_end : List Line → Bool
-  some_end ls = any (λ l. eqb l.end n) ls
+  some_end ls = list_any (λ l. eqb l.end n) ls
 
   at_end_law : (b k : ℕ) (ls : List Line) → Ordered b k ls → some_end ls ≡ true → (b < n) × (last_end b (not_above n ls) ≡ n)
-  unfolding any
   at_end_law b k [] o e = clash cc
   at_end_law b k (l ∷ ls) o e = by (eqb l.end n) refl (λ f. at_end_law l.end (suc l.number) ls o.2 f) e
     where
@@ -103,7 +103,6 @@ module _ (n : ℕ) where
           (omega (arith, o.0, i.0), rw (le-leb l.end n (omega (arith, i.0))) i.1)
 
   not_at_end : (b k : ℕ) (ls : List Line) → Ordered b k ls → b < n → some_end ls ≡ false → last_end b (not_above n ls) < n
-  unfolding any
   not_at_end b k [] o h e = h
   not_at_end b k (l ∷ ls) o h e = elim (dec_le l.end n) [
     | yes g ↦

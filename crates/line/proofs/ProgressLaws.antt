@@ -5,9 +5,9 @@ use mathlib.Core.List.{List, [], ◌∷◌, ◌++◌, map}
 use Prim.Native.Nat.{ℕ, zero, suc, ◌+◌, ◌≤◌, ◌<◌}
 use native.Mathlib.Nat.{add-zero}
 use native.Mathlib.Omega.{arith}
-use borrow.Author.Tests.{le-ltb, lt-ltb}
+use borrow.Author.Tests.{le-ltb}
 use lib.Dec.{ltb}
-use lib.ListN.{length, take, replicate, set}
+use lib.ListN.{length, take, replicate}
 use Rattle.text.specs.Bytes.{is}
 use Rattle.text.specs.Buffer.{laid}
 use Rattle.text.specs.Class.{blank, word_byte}
@@ -114,15 +114,6 @@ absorbed_between p (suc n) =
 pub parted : (p : Progress) {q : Progress} (n : ℕ) → 0 < n → q ≡ closed_off p → longer q n ≡ absorbed_all p (replicate n between)
 parted p zero h e = absurd (omega arith)
 parted p (suc n) h e = rw e (sym (absorbed_between p n))
-
--- a field that has begun, or none
-pub closed_no : (p : Progress) → p.kept ≤ p.start → p ≡ closed_off p
-unfolding closed_off
-closed_no p h = rw (le-ltb p.start p.kept h)
-
-pub closed_yes : (p : Progress) (ends : List ℕ) → p.start < p.kept → ends ≡ cond (ltb p.fields 64) (set p.ends p.fields p.kept) p.ends → record { joined = p.joined; kept = p.kept; fields = p.fields + 1; start = p.kept; text = p.text; ends = ends } ≡ closed_off p
-unfolding closed_off
-closed_yes p ends h e = rw (lt-ltb p.start p.kept h, e)
 
 pub closed_joined : (p : Progress) → (closed_off p).joined ≡ p.joined
 closed_joined p = closed_of (λ q. q.joined ≡ p.joined) p refl refl

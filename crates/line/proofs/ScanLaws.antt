@@ -1,4 +1,5 @@
 -- What the scan of a control line answers, and what a caller reads of it.
+use Rattle.std.specs.Prelude.{Err, Ok, Result}
 use mathlib.Core.Path.{◌≡◌, refl, sym, ap, ◌∙◌}
 use mathlib.Core.Bool.{Bool, true, false, not, ◌&&◌, ◌||◌}
 use mathlib.Core.List.{List, [], ◌∷◌, ◌++◌, append_assoc}
@@ -15,32 +16,30 @@ use Rattle.text.specs.Lists.{null}
 use Rattle.text.specs.declared.quote.Quoting.TheVariants.{Outside}
 use Rattle.text.proofs.Laws.{clash, either_no}
 use Rattle.text.proofs.Buffers.{laid_length, laid_is}
-use Rattle.fault.specs.Fault.{Reading, fault, value, and_then, require}
+use Rattle.fault.specs.Fault.{and_then, require}
 use Rattle.fault.specs.declared.Cause.{Cause}
 use Rattle.fault.specs.declared.Cause.TheVariants.{LineLength, Indent, OpenQuote, FieldCount}
 use Rattle.line.specs.declared.counts.Counts.{Counts}
-use Rattle.line.specs.declared.scan.ScannedLine.{ScannedLine}
-use Rattle.line.specs.declared.scan.ScannedLine.TheVariants.{Good, Fault}
 use Rattle.line.specs.declared.scanner.Scanner.{Scanner}
 use Rattle.line.specs.Joined.{begins, unquoted, joined_from, joined_line, indented}
 use Rattle.line.specs.Scan.{stretches, non_empty, fields_of, quoting_at_end, checked, scanned}
-use Rattle.line.specs.Contract.{mode_of, quoting_of, Progress, progress, closed_off, absorbed_all, start_of, Goes, fields_at, fields_in, ends_from, fields_text, counted, Scans}
+use Rattle.line.specs.Contract.{mode_of, quoting_of, Progress, progress, closed_off, absorbed_all, start_of, Goes, fields_at, fields_in, ends_from, fields_text, Scans}
 use Rattle.line.proofs.JoinedLaws.{at_end_law, indented_end}
 use Rattle.line.proofs.ProgressLaws.{closed_joined}
 use Rattle.line.proofs.FieldsLaws.{all_joined, all_text, laid_fields, text_few}
 use Rattle.line.proofs.ScannerLaws.{goes_none}
 
 -- an empty line has no field, so that a caller need not scan it
-pub scanned_empty : scanned [] ≡ value []
+pub scanned_empty : scanned [] ≡ Ok []
 unfolding scanned checked joined_line joined_from indented fields_of stretches non_empty quoting_at_end
 scanned_empty = refl
 
 -- ---- the answer
-told_count : (joined : ℕ) (indents quotes : Bool) (fs : List (List ℕ)) → counted (checked joined indents quotes (length fs) (length fs)) ≡ counted (and_then (checked joined indents quotes (length fs) fs) (λ x. value (length x)))
+told_count : (joined : ℕ) (indents quotes : Bool) (fs : List (List ℕ)) → (checked joined indents quotes (length fs) (length fs)) ≡ (and_then (checked joined indents quotes (length fs) fs) (λ x. Ok (length x)))
 unfolding checked
 told_count joined indents quotes fs = go (leb joined 4096) indents quotes (leb (length fs) 64)
   where
-    go : (a b c d : Bool) → counted (require a LineLength (require b Indent (require c OpenQuote (require d FieldCount (value (length fs)))))) ≡ counted (and_then (require a LineLength (require b Indent (require c OpenQuote (require d FieldCount (value fs))))) (λ x. value (length x)))
+    go : (a b c d : Bool) → (require a LineLength (require b Indent (require c OpenQuote (require d FieldCount (Ok (length fs)))))) ≡ (and_then (require a LineLength (require b Indent (require c OpenQuote (require d FieldCount (Ok fs))))) (λ x. Ok (length x)))
     go true true true true = refl
     go true true true false = refl
     go true true false d = refl
@@ -80,7 +79,7 @@ module _ {line text ends : List ℕ} {s : Scanner} {text' ends' : List ℕ} (w :
   end_bare : not s.bare ≡ indented line
   end_bare = ap not (sym (either_no s.bare) ∙ rw (indented_end line s.at h) at w.bares) ∙ not-not (indented line)
 
-  pub scans : {n : Counts} {ends'' : List ℕ} {r : ScannedLine} → ((t : List ℕ) → progress n t ends'' ≡ closed_off (progress s.counts t ends')) → r ≡ counted (checked n.joined ((s.hash || not s.bare) && (not (begins blank line) || eqb n.fields 0)) (unquoted (quoting_of (mode_of s.mode))) n.fields n.fields) → Scans line text text' ends ends'' r
+  pub scans : {n : Counts} {ends'' : List ℕ} {r : (Result ℕ Cause)} → ((t : List ℕ) → progress n t ends'' ≡ closed_off (progress s.counts t ends')) → r ≡ (checked n.joined ((s.hash || not s.bare) && (not (begins blank line) || eqb n.fields 0)) (unquoted (quoting_of (mode_of s.mode))) n.fields n.fields) → Scans line text text' ends ends'' r
   unfolding scanned
   scans {n} {ends''} {r} e f =
       let j = joined_line line in
@@ -96,24 +95,24 @@ module _ {line text ends : List ℕ} {s : Scanner} {text' ends' : List ℕ} (w :
       }
 
 -- ---- what a caller reads, in a buffer that has room for every joined line
-checked_good : {A : Type 0} (joined : ℕ) (indents quotes : Bool) (fields : ℕ) (x y : A) → checked joined indents quotes fields x ≡ value y → (joined ≤ 4096) × (fields ≤ 64) × (x ≡ y)
+checked_good : {A : Type 0} (joined : ℕ) (indents quotes : Bool) (fields : ℕ) (x y : A) → checked joined indents quotes fields x ≡ Ok y → (joined ≤ 4096) × (fields ≤ 64) × (x ≡ y)
 unfolding checked
 checked_good {A} joined indents quotes fields x y e = go (leb joined 4096) indents quotes (leb fields 64) refl refl e
   where
-    go : (a b c d : Bool) → leb joined 4096 ≡ a → leb fields 64 ≡ d → require a LineLength (require b Indent (require c OpenQuote (require d FieldCount (value x)))) ≡ value y → (joined ≤ 4096) × (fields ≤ 64) × (x ≡ y)
+    go : (a b c d : Bool) → leb joined 4096 ≡ a → leb fields 64 ≡ d → require a LineLength (require b Indent (require c OpenQuote (require d FieldCount (Ok x)))) ≡ Ok y → (joined ≤ 4096) × (fields ≤ 64) × (x ≡ y)
     go true true true true k l f = (leb-true joined 4096 k, leb-true fields 64 l, cc)
     go true true true false k l f = clash cc
     go true true false d k l f = clash cc
     go true false c d k l f = clash cc
     go false b c d k l f = clash cc
 
-told_good : (x : Reading Cause (List (List ℕ))) (n : ℕ) → counted (and_then x (λ fs. value (length fs))) ≡ Good n → (fs : List (List ℕ)) × (x ≡ value fs) × (length fs ≡ n)
-told_good (value fs) n e = (fs, refl, cc)
-told_good (fault c) n e = clash cc
+told_good : (x : Result (List (List ℕ)) Cause) (n : ℕ) → (and_then x (λ fs. Ok (length fs))) ≡ Ok n → (fs : List (List ℕ)) × (x ≡ Ok fs) × (length fs ≡ n)
+told_good (Ok fs) n e = (fs, refl, cc)
+told_good (Err c) n e = clash cc
 
-told_fault : (x : Reading Cause (List (List ℕ))) (c : Cause) → counted (and_then x (λ fs. value (length fs))) ≡ Fault c → x ≡ fault c
-told_fault (value fs) c e = clash cc
-told_fault (fault d) c e = cc
+told_fault : (x : Result (List (List ℕ)) Cause) (c : Cause) → (and_then x (λ fs. Ok (length fs))) ≡ Err c → x ≡ Err c
+told_fault (Ok fs) c e = clash cc
+told_fault (Err d) c e = cc
 
 -- fields laid one behind the other are told by their ends
 read_back : (t pre rest more : List ℕ) (fs : List (List ℕ)) → t ≡ pre ++ (fields_text fs ++ rest) → fields_at t (length pre) (ends_from (length pre) fs ++ more) (length fs) ≡ fs
@@ -131,14 +130,14 @@ unfolding ends_from
 ends_length n [] = refl
 ends_length n (f ∷ fs) = ap suc (ends_length (n + length f) fs)
 
-module _ {line text text' ends ends' : List ℕ} {r : ScannedLine} (w : Scans line text text' ends ends' r) where
+module _ {line text text' ends ends' : List ℕ} {r : (Result ℕ Cause)} (w : Scans line text text' ends ends' r) where
   pub scans_length : length text' ≡ length text
   scans_length = ap length w.bytes ∙ laid_length text 0 (fields_text (fields_of (joined_line line)))
 
-  pub scans_fault : {c : Cause} → r ≡ Fault c → scanned line ≡ fault c
+  pub scans_fault : {c : Cause} → r ≡ Err c → scanned line ≡ Err c
   scans_fault {c} e = told_fault (scanned line) c (sym w.answer ∙ e)
 
-  pub scans_good : {n : ℕ} → r ≡ Good n → 4096 ≤ length text → length ends ≡ 64 → (scanned line ≡ value (fields_in text' ends' n)) × (n ≤ 64)
+  pub scans_good : {n : ℕ} → r ≡ Ok n → 4096 ≤ length text → length ends ≡ 64 → (scanned line ≡ Ok (fields_in text' ends' n)) × (n ≤ 64)
   unfolding scanned fields_in
   scans_good {n} e h l =
       let j = joined_line line in
@@ -151,4 +150,4 @@ module _ {line text text' ends ends' : List ℕ} {r : ScannedLine} (w : Scans li
       let y : 0 + length (fields_text fs) ≤ length text = omega (arith, text_few j, k.0) in
       let p : ends' ≡ ends_from 0 fs ++ drop (0 + length (ends_from 0 fs)) ends = w.places ∙ rw o (laid_is ends 0 (ends_from 0 fs) x) in
       let q : text' ≡ fields_text fs ++ drop (0 + length (fields_text fs)) text = w.bytes ∙ laid_is text 0 (fields_text fs) y in
-      (g.1 ∙ ap value (sym (rw (m, p) (read_back text' [] (drop (0 + length (fields_text fs)) text) (drop (0 + length (ends_from 0 fs)) ends) fs q) ∙ k.2)), omega (arith, k.1, ap length k.2, g.2))
+      (g.1 ∙ ap Ok (sym (rw (m, p) (read_back text' [] (drop (0 + length (fields_text fs)) text) (drop (0 + length (ends_from 0 fs)) ends) fs q) ∙ k.2)), omega (arith, k.1, ap length k.2, g.2))

@@ -13,15 +13,13 @@ use Rattle.text.specs.Buffer.{laid}
 use Rattle.text.specs.Class.{blank, word_byte}
 use Rattle.text.specs.Contract.{lead}
 use Rattle.text.specs.Quote.{quoting_after}
-use Rattle.text.specs.declared.quote.Quoting.{Quoting}
-use Rattle.text.specs.declared.quote.Quoting.TheVariants.{Outside, Single, Double}
-use Rattle.text.proofs.Laws.{clash, both_true, either_assoc, not_both, part_length}
+use Rattle.text.specs.declared.quote.Quoting.TheVariants.{Outside}
+use Rattle.text.proofs.Laws.{both_true, either_assoc, not_both, part_length}
 use Rattle.line.specs.declared.counts.Counts.{Counts}
 use Rattle.line.specs.declared.mode.ScanMode.{ScanMode}
-use Rattle.line.specs.declared.mode.ScanMode.TheVariants.{Fields, Comment}
 use Rattle.line.specs.declared.run.Run.TheVariants.{Blanks, Plain}
 use Rattle.line.specs.declared.scanner.Scanner.{Scanner}
-use Rattle.line.specs.Joined.{Mode, in_fields, in_comment, JoinedByte, kept, between, begins, leading, unquoted, parts_fields, gives, join_blank, mode_after, mode_joined, indented}
+use Rattle.line.specs.Joined.{Mode, in_fields, in_comment, JoinedByte, kept, between, begins, leading, parts_fields, gives, join_blank, mode_after, mode_joined, indented}
 use Rattle.line.specs.Scan.{quoting_at_end}
 use Rattle.line.specs.Contract.{mode_of, quoting_of, joins_at, in_run, Progress, progress, longer, absorbed, absorbed_all, Few, Bounded, joined_ahead, joined_at, Goes}
 use Rattle.line.proofs.JoinedLaws.{Steady, at_byte, at_join, at_run, indented_byte, indented_join, indented_run, begins_leading, lead_leading, by_blank, blank_joinless}
@@ -103,26 +101,10 @@ map_same : (s : List ℕ) → map (λ b. between) s ≡ replicate (length s) bet
 map_same [] = refl
 map_same (b ∷ s) = ap (λ j. between ∷ j) (map_same s)
 
-pub outside : (q : Quoting) → unquoted q ≡ true → q ≡ Outside
-outside Outside e = refl
-outside Single e = clash cc
-outside Double e = clash cc
-
 -- ---- one scanner after another
 module _ {line : List ℕ} {s : Scanner} {text ends : List ℕ} where
   pub goes_none : Bounded line s → Goes line s text ends s text ends
   goes_none w = record { low = omega arith; bounded = w; same = refl; hash = refl; made = refl; quotes = refl; bares = refl }
-
-  pub goes_then : {r q : Scanner} {text' ends' text'' ends'' : List ℕ} → Goes line s text ends r text' ends' → Goes line r text' ends' q text'' ends'' → Goes line s text ends q text'' ends''
-  goes_then v w = record {
-    low = omega (arith, v.low, w.low);
-    bounded = w.bounded;
-    same = w.same ∙ v.same;
-    hash = w.hash ∙ v.hash;
-    made = w.made ∙ v.made;
-    quotes = w.quotes ∙ v.quotes;
-    bares = w.bares ∙ v.bares;
-  }
 
   -- what is laid is what the joined line has up to where the other is
   goes_by : {r : Scanner} {text' ends' : List ℕ} (x : List JoinedByte) → Bounded line s → s.at + length x ≤ r.at → r.at ≤ length line → r.hash ≡ s.hash
@@ -158,26 +140,30 @@ module _ {line : List ℕ} {s : Scanner} {text ends : List ℕ} where
         goes_by (join_blank v b) w (omega (arith, blank_few v b)) k refl (at_join s.hash v line s.at h e ∙ rw (f, d)) p (rw f (quoting_join s.hash v b (joined_at s.hash (mode_joined s.hash v) line end))) (bare_join line s.at end s.bare h e d)
 
     -- bytes that need no step of their own
-    goes_run : {f : ℕ → Bool} {g : ℕ → JoinedByte} {n : Counts} {m : ScanMode} {text' ends' : List ℕ} → Steady f (mode_of m) g → mode_of s.mode ≡ mode_of m → (end : ℕ) → end ≡ s.at + leading f (drop s.at line) → end ≤ length line
-        → progress n text' ends' ≡ absorbed_all (progress s.counts text ends) (map g (take (end - s.at) (drop s.at line))) → Goes line s text ends (record { at = end; mode = m; counts = n; bare = s.bare; hash = s.hash }) text' ends'
-    goes_run {f} {g} {n} {m} v e end d k p =
+    goes_run : {f : ℕ → Bool} {v : Mode} {g : ℕ → JoinedByte} {n : Counts} {text' ends' : List ℕ} → Steady f v g → mode_of s.mode ≡ v → (end : ℕ) → end ≡ s.at + leading f (drop s.at line) → end ≤ length line
+        → progress n text' ends' ≡ absorbed_all (progress s.counts text ends) (map g (take (end - s.at) (drop s.at line))) → Goes line s text ends (record { at = end; mode = s.mode; counts = n; bare = s.bare; hash = s.hash }) text' ends'
+    goes_run {f} {v} {g} {n} y e end d k p =
         let r = drop s.at line in
         let z : end - s.at ≡ leading f r = omega arith in
         let l : length (map g (take (end - s.at) r)) ≡ end - s.at = length-map (take (end - s.at) r) g ∙ part_length line s.at end k in
-        let b : indented (drop end line) ≡ indented r = rw d (sym (indented_run f v.joinless r ∙ rw (drop-drop (leading f r) s.at line))) in
-        goes_by (map g (take (end - s.at) r)) w (omega (arith, l, w.within)) k refl (rw (e, z, d) (at_run s.hash v line s.at w.within)) p (rw (e, z) (quoting_run v r (joined_at s.hash (mode_of m) line end))) (rw b)
+        let b : indented (drop end line) ≡ indented r = rw d (sym (indented_run f y.joinless r ∙ rw (drop-drop (leading f r) s.at line))) in
+        goes_by (map g (take (end - s.at) r)) w (omega (arith, l, w.within)) k refl (rw (e, z, d) (at_run s.hash y line s.at w.within)) p (rw (e, z) (quoting_run y r (joined_at s.hash v line end))) (rw b)
 
     pub goes_plain : {text' : List ℕ} (end : ℕ) → mode_of s.mode ≡ in_fields Outside → end ≡ s.at + leading (in_run Plain) (drop s.at line) → end ≤ length line → text' ≡ laid text s.counts.kept (take (end - s.at) (drop s.at line))
-        → Goes line s text ends (record { at = end; mode = Fields Outside; counts = record { joined = s.counts.joined + (end - s.at); kept = s.counts.kept + (end - s.at); fields = s.counts.fields; start = s.counts.start }; bare = s.bare; hash = s.hash }) text' ends
+        → Goes line s text ends (record { at = end; mode = s.mode; counts = record { joined = s.counts.joined + (end - s.at); kept = s.counts.kept + (end - s.at); fields = s.counts.fields; start = s.counts.start }; bare = s.bare; hash = s.hash }) text' ends
     goes_plain end e d k t =
         goes_run steady_plain e end d k (rw t (sym (absorbed_kept (progress s.counts text ends) (take (end - s.at) (drop s.at line)) ∙ rw (part_length line s.at end k))))
 
+    -- bytes that are in no field
+    goes_between : {f : ℕ → Bool} {v : Mode} {n : Counts} {ends' : List ℕ} → Steady f v (λ b. between) → mode_of s.mode ≡ v → (end : ℕ) → end ≡ s.at + leading f (drop s.at line) → end ≤ length line → progress n text ends' ≡ absorbed_all (progress s.counts text ends) (replicate (end - s.at) between)
+        → Goes line s text ends (record { at = end; mode = s.mode; counts = n; bare = s.bare; hash = s.hash }) text ends'
+    goes_between y e end d k p =
+        goes_run y e end d k (p ∙ ap (absorbed_all (progress s.counts text ends)) (sym (map_same (take (end - s.at) (drop s.at line)) ∙ rw (part_length line s.at end k))))
+
     pub goes_blanks : {n : Counts} {ends' : List ℕ} (end : ℕ) → mode_of s.mode ≡ in_fields Outside → end ≡ s.at + leading (in_run Blanks) (drop s.at line) → end ≤ length line → progress n text ends' ≡ absorbed_all (progress s.counts text ends) (replicate (end - s.at) between)
-        → Goes line s text ends (record { at = end; mode = Fields Outside; counts = n; bare = s.bare; hash = s.hash }) text ends'
-    goes_blanks end e d k p =
-        goes_run steady_blanks e end d k (p ∙ ap (absorbed_all (progress s.counts text ends)) (sym (map_same (take (end - s.at) (drop s.at line)) ∙ rw (part_length line s.at end k))))
+        → Goes line s text ends (record { at = end; mode = s.mode; counts = n; bare = s.bare; hash = s.hash }) text ends'
+    goes_blanks end e d k p = goes_between steady_blanks e end d k p
 
     pub goes_comment : {n : Counts} {ends' : List ℕ} (end : ℕ) → mode_of s.mode ≡ in_comment → end ≡ s.at + lead (byte "\\") (drop s.at line) → end ≤ length line → progress n text ends' ≡ absorbed_all (progress s.counts text ends) (replicate (end - s.at) between)
-        → Goes line s text ends (record { at = end; mode = Comment; counts = n; bare = s.bare; hash = s.hash }) text ends'
-    goes_comment end e d k p =
-        goes_run steady_comment e end (d ∙ rw (lead_leading (byte "\\") (drop s.at line))) k (p ∙ ap (absorbed_all (progress s.counts text ends)) (sym (map_same (take (end - s.at) (drop s.at line)) ∙ rw (part_length line s.at end k))))
+        → Goes line s text ends (record { at = end; mode = s.mode; counts = n; bare = s.bare; hash = s.hash }) text ends'
+    goes_comment end e d k p = goes_between steady_comment e end (d ∙ rw (lead_leading (byte "\\") (drop s.at line))) k p

@@ -1,8 +1,8 @@
 -- The lines of a text of n bytes have their numbers, their bytes and their ends within n, and so does what a fold over them tells. Assumes nothing.
+use Rattle.std.specs.Prelude.{Err, Ok, Option, Result, Some}
 use mathlib.Core.Path.{◌≡◌, refl, sym, ap, ◌∙◌}
 use mathlib.Core.Bool.{Bool, true, false, not, cond}
 use mathlib.Core.List.{List, [], ◌∷◌, ◌++◌}
-use mathlib.Core.Option.{Option, some}
 use Prim.Native.Nat.{ℕ, suc, ◌+◌, ◌≤◌}
 use native.Mathlib.Omega.{arith}
 use borrow.Author.Tests.{leb-true}
@@ -12,7 +12,7 @@ use lib.Seq.{take_all}
 use Rattle.text.specs.Bytes.{is}
 use Rattle.text.specs.Lists.{count}
 use Rattle.text.proofs.Laws.{clash}
-use Rattle.fault.specs.Fault.{Reading, fault, value, and_then, require}
+use Rattle.fault.specs.Fault.{and_then, require}
 use Rattle.fault.proofs.Readings.{never, Each}
 use Rattle.line.specs.Line.{Line, placed, ended_lines, newlines, lines_of, not_above, last_end, cut_short}
 use Rattle.line.specs.Fold.{Located, of_line, at_beginning, Refusal, faulty, cut, refusing, run, outcome}
@@ -61,16 +61,16 @@ last_within : (n b : ℕ) (ls : List Line) → b ≤ n → Each (LineWithin n) l
 last_within n b [] h k = h
 last_within n b (l ∷ ls) h k = last_within n l.end ls k.0.end k.1
 
-refused_within : (at : ℕ) (s : List ℕ) (p : ℕ) → refused_from at s ≡ some p → p ≤ at + length s
+refused_within : (at : ℕ) (s : List ℕ) (p : ℕ) → refused_from at s ≡ Some p → p ≤ at + length s
 unfolding refused_from
 refused_within at [] p e = clash cc
 refused_within at (b ∷ s) p e = by (accepted b) e (λ f. refused_within (at + 1) s p f)
   where
-    by : (x : Bool) → cond x (refused_from (at + 1) s) (some at) ≡ some p → (refused_from (at + 1) s ≡ some p → p ≤ at + 1 + length s) → p ≤ at + suc (length s)
+    by : (x : Bool) → cond x (refused_from (at + 1) s) (Some at) ≡ Some p → (refused_from (at + 1) s ≡ Some p → p ≤ at + 1 + length s) → p ≤ at + suc (length s)
     by true f h = omega (arith, h f)
     by false f h = let g : at ≡ p = cc in omega arith
 
-pub refused_place : (t : List ℕ) (p : ℕ) → refused_byte t ≡ some p → p ≤ length t
+pub refused_place : (t : List ℕ) (p : ℕ) → refused_byte t ≡ Some p → p ≤ length t
 unfolding refused_byte
 refused_place t p e = omega (arith, refused_within 0 t p e)
 
@@ -81,39 +81,39 @@ RefusalWithin n (faulty c p) = p ≤ n
 RefusalWithin n (cut p) = p ≤ n
 
 -- the place of a reading that refuses is within n, and P holds of what any other gives
-abbrev pub ReadWithin : {F A : Type 0} → ℕ → (A → Type 0) → Reading (Refusal F) A → Type 0
-ReadWithin n P (fault r) = RefusalWithin n r
-ReadWithin n P (value a) = P a
+abbrev pub ReadWithin : {F A : Type 0} → ℕ → (A → Type 0) → Result A (Refusal F) → Type 0
+ReadWithin n P (Err r) = RefusalWithin n r
+ReadWithin n P (Ok a) = P a
 
 -- every fault of a step is within its line
-abbrev pub FaultsWithin : {F S : Type 0} → (S → Line → Reading (Located F) S) → Type 0
-FaultsWithin {F} {S} step = (s : S) (l : Line) (x : Located F) → step s l ≡ fault x → x.offset ≤ length l.bytes
+abbrev pub FaultsWithin : {F S : Type 0} → (S → Line → Result S (Located F)) → Type 0
+FaultsWithin {F} {S} step = (s : S) (l : Line) (x : Located F) → step s l ≡ Err x → x.offset ≤ length l.bytes
 
 -- one that is told at the beginning is within any number of bytes
-pub beginning_within : {F S : Type 0} (n : ℕ) (r : Reading F S) (x : Located F) → at_beginning r ≡ fault x → x.offset ≤ n
-beginning_within n (fault c) x e = let z : of_line c ≡ x = cc in rw (← z) (omega arith)
-beginning_within n (value s) x e = never (sym e)
+pub beginning_within : {F S : Type 0} (n : ℕ) (r : Result S F) (x : Located F) → at_beginning r ≡ Err x → x.offset ≤ n
+beginning_within n (Err c) x e = let z : of_line c ≡ x = cc in rw (← z) (omega arith)
+beginning_within n (Ok s) x e = never (sym e)
 
 -- what every line of t keeps holds of the outcome over its lines
-module _ {F S D : Type 0} (continues : ℕ → Bool) (step : S → Line → Reading (Located F) S) (within : FaultsWithin step) (decision : S → Option D) (t : List ℕ) (P : S → Type 0)
-    (keeps : (s s' : S) (l : Line) → LineWithin (length t) l → P s → step s l ≡ value s' → P s') where
+module _ {F S D : Type 0} (continues : ℕ → Bool) (step : S → Line → Result S (Located F)) (within : FaultsWithin step) (decision : S → Option D) (t : List ℕ) (P : S → Type 0)
+    (keeps : (s s' : S) (l : Line) → LineWithin (length t) l → P s → step s l ≡ Ok s' → P s') where
   run_within : (ls : List Line) (s : S) → Each (LineWithin (length t)) ls → P s → ReadWithin (length t) P (run step ls s)
   unfolding run
   run_within [] s w h = h
   run_within (l ∷ ls) s w h = by (step s l) refl (λ s' k. run_within ls s' w.1 k)
     where
-      by : (r : Reading (Located F) S) → step s l ≡ r → ((s' : S) → P s' → ReadWithin (length t) P (run step ls s')) → ReadWithin (length t) P (and_then (refusing l.begin r) (run step ls))
-      by (fault x) e k = omega (arith, w.0.bytes, within s l x e)
-      by (value s') e k = k s' (keeps s s' l w.0 h e)
+      by : (r : Result S (Located F)) → step s l ≡ r → ((s' : S) → P s' → ReadWithin (length t) P (run step ls s')) → ReadWithin (length t) P (and_then (refusing l.begin r) (run step ls))
+      by (Err x) e k = omega (arith, w.0.bytes, within s l x e)
+      by (Ok s') e k = k s' (keeps s s' l w.0 h e)
 
   pub outcome_within : (Q : Option D → Type 0) (s : S) → ((s' : S) → P s' → Q (decision s')) → P s → ReadWithin (length t) Q (outcome continues step decision s t)
   unfolding outcome
   outcome_within Q s q h = by (run step (lines_of continues t) s) (run_within (lines_of continues t) s (lines_within continues t) h)
     where
-      last : (x : Bool) (s' : S) → P s' → ReadWithin {F = F} (length t) Q (require x (cut (last_end 0 (lines_of continues t))) (value (decision s')))
+      last : (x : Bool) (s' : S) → P s' → ReadWithin {F = F} (length t) Q (require x (cut (last_end 0 (lines_of continues t))) (Ok (decision s')))
       last true s' k = q s' k
       last false s' k = last_within (length t) 0 (lines_of continues t) (omega arith) (lines_within continues t)
 
-      by : (r : Reading (Refusal F) S) → ReadWithin (length t) P r → ReadWithin (length t) Q (and_then r (λ s'. require (not (cut_short continues t)) (cut (last_end 0 (lines_of continues t))) (value (decision s'))))
-      by (fault r) k = k
-      by (value s') k = last (not (cut_short continues t)) s' k
+      by : (r : Result S (Refusal F)) → ReadWithin (length t) P r → ReadWithin (length t) Q (and_then r (λ s'. require (not (cut_short continues t)) (cut (last_end 0 (lines_of continues t))) (Ok (decision s'))))
+      by (Err r) k = k
+      by (Ok s') k = last (not (cut_short continues t)) s' k

@@ -1,38 +1,24 @@
 -- What only contracts and proofs cite: places in a table and what the answers about them stand for; how far the scan of a control line is, and the fields that a buffer and ends tell.
-use Rattle.std.specs.Prelude.{ℕ, ◌+◌, ◌-◌, ◌≤◌, ◌<◌, zero, suc, min, ◌≡◌, false, Bool, true, not, cond, ◌&&◌, ◌||◌, List, [], ◌∷◌, ◌++◌, length, take, drop, get_or, set, leb, ltb}
-use Rattle.std.proofs.Math.Option.{Option, none, some}
-use Rattle.text.specs.declared.slice.Found.{Found}
-use Rattle.text.specs.declared.slice.Found.TheVariants.{At as FoundAt, Nothing}
+use Rattle.std.specs.Prelude.{ℕ, ◌+◌, ◌-◌, ◌≤◌, ◌<◌, zero, suc, min, ◌≡◌, false, Bool, true, not, cond, ◌&&◌, ◌||◌, List, [], ◌∷◌, ◌++◌, length, take, drop, get_or, set, leb, ltb, None, Ok, Option, Result, Some}
 use Rattle.text.specs.Bytes.{byte, is}
 use Rattle.text.specs.Buffer.{laid}
 use Rattle.text.specs.Class.{blank}
 use Rattle.text.specs.declared.quote.Quoting.{Quoting}
 use Rattle.text.specs.declared.quote.Quoting.TheVariants.{Outside}
-use Rattle.fault.specs.Fault.{Reading, fault, value, and_then}
+use Rattle.fault.specs.Fault.{and_then}
 use Rattle.fault.specs.declared.Cause.{Cause}
-use Rattle.line.specs.declared.ends.End.{End}
-use Rattle.line.specs.declared.ends.End.TheVariants.{At, Cut}
+use Rattle.line.specs.declared.ends.LineEnd.{LineEnd}
 use Rattle.line.specs.declared.ends.Continuation.{Continuation}
 use Rattle.line.specs.declared.ends.Continuation.TheVariants.{Backslash as AfterBackslash, Never}
-use Rattle.line.specs.declared.whole.WholeText.{WholeText}
-use Rattle.line.specs.declared.whole.WholeText.TheVariants.{Whole as IsWhole, Long, RefusedAt, CutAt}
 use Rattle.line.specs.declared.counts.Counts.{Counts}
 use Rattle.line.specs.declared.mode.ScanMode.{ScanMode}
 use Rattle.line.specs.declared.mode.ScanMode.TheVariants.{Fields, Comment}
 use Rattle.line.specs.declared.run.Run.{Run}
 use Rattle.line.specs.declared.run.Run.TheVariants.{Blanks, Plain}
-use Rattle.line.specs.declared.scan.ScannedLine.{ScannedLine}
-use Rattle.line.specs.declared.scan.ScannedLine.TheVariants.{Good, Fault}
 use Rattle.line.specs.declared.scanner.Scanner.{Scanner}
 use Rattle.line.specs.Line.{Line, line, backslash, no_byte, newlines, placed, ended_lines}
-use Rattle.line.specs.Whole.{TextFault, long, refused_at, cut_at, Whole, whole}
 use Rattle.line.specs.Joined.{Mode, in_fields, in_comment, JoinedByte, kept, between, joins, joined_from, joined_line, indented}
 use Rattle.line.specs.Scan.{most_fields, fields_of, quoting_at_end, scanned}
-
--- the place that a search tells
-abbrev pub place_found : Found → Option ℕ
-place_found (FoundAt i) = some i
-place_found Nothing = none
 
 -- r is the place of the first byte c from i on, or the end
 pub record Reaches (c : ℕ) (t : List ℕ) (i r : ℕ) : Type 0 where
@@ -55,21 +41,14 @@ pub record LineEnds (continues : ℕ → Bool) (t : List ℕ) (at e count : ℕ)
   pub reads : (number : ℕ) → lines_from continues t at number ≡ line at e number (take (e - 1 - at) (drop at t)) ∷ lines_from continues t e (number + count)
 
 -- where the line that begins at a place ends, or that there is none that ends
-abbrev pub Ends : (ℕ → Bool) → List ℕ → ℕ → End → Type 0
-Ends continues t at (At e count) = LineEnds continues t at e count
-Ends continues t at Cut = (number : ℕ) → lines_from continues t at number ≡ []
+abbrev pub Ends : (ℕ → Bool) → List ℕ → ℕ → Option LineEnd → Type 0
+Ends continues t at (Some e) = LineEnds continues t at e.end e.lines
+Ends continues t at None = (number : ℕ) → lines_from continues t at number ≡ []
 
 -- the bytes that continue a line over a newline
 abbrev pub continues_in : Continuation → ℕ → Bool
 continues_in AfterBackslash b = backslash b
 continues_in Never b = no_byte b
-
--- ---- the text as a whole
-abbrev pub whole_in : WholeText → Reading TextFault Whole
-whole_in IsWhole = value whole
-whole_in Long = fault long
-whole_in (RefusedAt p) = fault (refused_at p)
-whole_in (CutAt p) = fault (cut_at p)
 
 -- ---- the line
 abbrev pub mode_of : ScanMode → Mode
@@ -183,13 +162,8 @@ unfoldable pub fields_text : List (List ℕ) → List ℕ
 fields_text [] = []
 fields_text (f ∷ fs) = f ++ fields_text fs
 
--- ---- the answer
-abbrev pub counted : Reading Cause ℕ → ScannedLine
-counted (value n) = Good n
-counted (fault c) = Fault c
-
 -- the line was scanned: the buffer begins with the bytes of its fields and the ends with theirs, so far as there is room, and what stood behind them stays
-pub record Scans (line text text' ends ends' : List ℕ) (r : ScannedLine) : Type 0 where
+pub record Scans (line text text' ends ends' : List ℕ) (r : (Result ℕ Cause)) : Type 0 where
   pub bytes : text' ≡ laid text 0 (fields_text (fields_of (joined_line line)))
   pub places : ends' ≡ laid ends 0 (take most_fields (ends_from 0 (fields_of (joined_line line))))
-  pub answer : r ≡ counted (and_then (scanned line) (λ fs. value (length fs)))
+  pub answer : r ≡ (and_then (scanned line) (λ fs. Ok (length fs)))

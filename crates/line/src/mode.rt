@@ -17,14 +17,11 @@ pub enum ScanMode {
 pub fn is_unquoted(quoting: Quoting) -> bool
     ensures { result ≡ unquoted quoting }
 {
-    match quoting {
-        Quoting::Outside => true,
-        Quoting::Single => false,
-        Quoting::Double => false,
-    }
+    quoting == Quoting::Outside
 }
 
 // Whether a byte stands between fields.
+#[tactic(auto, unfolding(crate::specs::Joined::parts_fields))]
 pub fn parts_fields(mode: ScanMode, b: u8) -> bool
     ensures { result ≡ parts_fields (mode_of mode) b }
 {
@@ -35,36 +32,31 @@ pub fn parts_fields(mode: ScanMode, b: u8) -> bool
 }
 
 // The mode behind a byte.
+#[tactic(auto, unfolding(crate::specs::Joined::mode_after))]
 pub fn mode_after(mode: ScanMode, b: u8) -> ScanMode
     ensures { mode_of result ≡ mode_after (mode_of mode) b }
 {
     match mode {
-        ScanMode::Fields(quoting) => {
-            if is_unquoted(quoting) & (b == b'#') {
-                return ScanMode::Comment;
-            }
+        ScanMode::Fields(quoting) if !is_unquoted(quoting) | (b != b'#') => {
             ScanMode::Fields(quoting_after(quoting, b))
         }
-        ScanMode::Comment => ScanMode::Comment,
+        _ => ScanMode::Comment,
     }
 }
 
 // The mode behind a join, in a line whose first byte may be `#`.
+#[tactic(auto, unfolding(crate::specs::Joined::mode_joined))]
 pub fn mode_joined(hash: bool, mode: ScanMode) -> ScanMode
     ensures { mode_of result ≡ mode_joined hash (mode_of mode) }
 {
     match mode {
-        ScanMode::Fields(quoting) => ScanMode::Fields(quoting),
-        ScanMode::Comment => {
-            if hash {
-                return ScanMode::Comment;
-            }
-            ScanMode::Fields(Quoting::Outside)
-        }
+        ScanMode::Comment if !hash => ScanMode::Fields(Quoting::Outside),
+        _ => mode,
     }
 }
 
 // Whether a join behind a byte gives a blank.
+#[tactic(auto, unfolding(crate::specs::Joined::join_blank, crate::specs::Joined::parts_fields))]
 pub fn join_gives(mode: ScanMode, before: u8) -> bool
     ensures { join_blank (mode_of mode) before ≡ cond result (gives (mode_of mode) 32 ∷ []) [] }
 {

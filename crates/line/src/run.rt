@@ -12,12 +12,13 @@ pub enum Run {
     Plain,
 }
 
+#[tactic(auto, unfolding(crate::specs::Contract::in_run))]
 fn is_in(run: Run, b: u8) -> bool
     ensures { result ≡ in_run run b }
 {
     match run {
         Run::Blanks => is_blank(b),
-        Run::Plain => (b > b'\'') & (b != b'\\'),
+        Run::Plain => b > b'\'' && b != b'\\',
     }
 }
 
@@ -26,12 +27,9 @@ pub fn run_end(line: &[u8], from: usize, run: Run) -> usize
     requires { from ≤ length line.now }
     ensures { (result ≡ from + leading (in_run run) (drop from line.now)) × (from ≤ result) × (result ≤ length line.now) }
 {
-    let mut i = from;
-    while i < line.len() {
-        if !is_in(run, line[i]) {
-            return i;
-        }
-        i += 1;
-    }
-    i
+    let rest = &line[from..];
+    from + rest
+        .iter()
+        .position(|b| !is_in(run, *b))
+        .unwrap_or(rest.len())
 }

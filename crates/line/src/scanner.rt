@@ -5,7 +5,7 @@ ghost use Rattle.line.specs.Joined.{in_fields, in_comment};
 ghost use Rattle.line.specs.Contract.{joins_at, mode_of, in_run, start_of, Bounded, Goes};
 
 use super::counts::Counts;
-use super::mode::{ScanMode, is_unquoted, mode_after, mode_joined};
+use super::mode::{ScanMode, mode_after, mode_joined};
 use super::run::{Run, run_end};
 use text::buffer::put_all;
 use text::class::is_blank;
@@ -29,13 +29,7 @@ pub fn joins_at(line: &[u8], i: usize) -> bool
     requires { i < length line.now }
     ensures { result ≡ joins_at (drop i line.now) }
 {
-    if line[i] != b'\\' {
-        return false;
-    }
-    if i + 1 < line.len() {
-        return line[i + 1] == b'\n';
-    }
-    false
+    line[i..].starts_with(b"\\\n")
 }
 
 // The byte before a place; before the first, a newline.
@@ -43,10 +37,7 @@ pub fn byte_before(line: &[u8], i: usize) -> u8
     requires { i ≤ length line.now }
     ensures { result ≡ get_or (10 ∷ line.now) i 0 }
 {
-    if i > 0 {
-        return line[i - 1];
-    }
-    b'\n'
+    if i == 0 { b'\n' } else { line[i - 1] }
 }
 
 impl Scanner {
@@ -73,19 +64,16 @@ impl Scanner {
         requires { Bounded line.now self × (self.at < length line.now) × (joins_at (drop self.at line.now) ≡ true) }
         ensures { (self.at < result.at) × Goes line.now self text.old ends.old result text.new ends.new }
     {
-        let at = self.at;
-        let mode = self.mode;
-        let had = self.counts;
-        let counts = had.add_join(mode, byte_before(line, at), text, ends);
-        let next = at + 2;
+        let before = byte_before(line, self.at);
+        let counts = self.counts.add_join(self.mode, before, text, ends);
+        let next = self.at + 2;
         let end = run_end(line, next, Run::Blanks);
-        let lacks = end == next;
         Scanner {
             at: end,
-            mode: mode_joined(self.hash, mode),
+            mode: mode_joined(self.hash, self.mode),
             counts,
-            bare: self.bare | lacks,
-            hash: self.hash,
+            bare: self.bare | (end == next),
+            ..self
         }
     }
 
@@ -94,35 +82,24 @@ impl Scanner {
         requires { Bounded line.now self × (self.at < length line.now) × (joins_at (drop self.at line.now) ≡ false) }
         ensures { (self.at < result.at) × Goes line.now self text.old ends.old result text.new ends.new }
     {
-        let at = self.at;
-        let mode = self.mode;
-        let had = self.counts;
-        let b = line[at];
-        let counts = had.add(mode, b, text, ends);
+        let b = line[self.at];
         Scanner {
-            at: at + 1,
-            mode: mode_after(mode, b),
-            counts,
-            bare: self.bare,
-            hash: self.hash,
+            at: self.at + 1,
+            mode: mode_after(self.mode, b),
+            counts: self.counts.add(self.mode, b, text, ends),
+            ..self
         }
     }
 
     // Whether a blank stands here outside quotes: it parts fields.
+    #[tactic(auto, unfolding(crate::specs::Contract::in_run))]
     fn is_between(self, line: &[u8]) -> bool
         requires { self.at < length line.now }
         ensures { result ≡ true → (mode_of self.mode ≡ in_fields Outside) × (in_run Run.Blanks (get_or line.now self.at 0) ≡ true) }
     {
-        let at = self.at;
-        let mode = self.mode;
-        match mode {
-            ScanMode::Fields(quoting) => {
-                if is_unquoted(quoting) {
-                    return is_blank(line[at]);
-                }
-                false
-            }
-            ScanMode::Comment => false,
+        match self.mode {
+            ScanMode::Fields(Quoting::Outside) => is_blank(line[self.at]),
+            _ => false,
         }
     }
 
@@ -131,16 +108,11 @@ impl Scanner {
         requires { Bounded line.now self × (self.at < length line.now) × (mode_of self.mode ≡ in_fields Outside) × (in_run Run.Blanks (get_or line.now self.at 0) ≡ true) }
         ensures { (self.at < result.at) × ((text : List ℕ) → Goes line.now self text ends.old result text ends.new) }
     {
-        let at = self.at;
-        let had = self.counts;
-        let end = run_end(line, at, Run::Blanks);
-        let counts = had.part(end - at, ends);
+        let end = run_end(line, self.at, Run::Blanks);
         Scanner {
             at: end,
-            mode: ScanMode::Fields(Quoting::Outside),
-            counts,
-            bare: self.bare,
-            hash: self.hash,
+            counts: self.counts.part(end - self.at, ends),
+            ..self
         }
     }
 
@@ -160,23 +132,19 @@ impl Scanner {
         requires { Bounded line.now self × (mode_of self.mode ≡ in_fields Outside) }
         ensures { (ends : List ℕ) → Goes line.now self text.old ends result text.new ends }
     {
-        let at = self.at;
+        let end = run_end(line, self.at, Run::Plain);
         let had = self.counts;
-        let end = run_end(line, at, Run::Plain);
-        put_all(text, had.kept, &line[at..end]);
-        let n = end - at;
+        put_all(text, had.kept, &line[self.at..end]);
+        let n = end - self.at;
         let counts = Counts {
             joined: had.joined + n,
             kept: had.kept + n,
-            fields: had.fields,
-            start: had.start,
+            ..had
         };
         Scanner {
             at: end,
-            mode: ScanMode::Fields(Quoting::Outside),
             counts,
-            bare: self.bare,
-            hash: self.hash,
+            ..self
         }
     }
 
@@ -185,19 +153,14 @@ impl Scanner {
         requires { Bounded line.now self × (mode_of self.mode ≡ in_comment) }
         ensures { (text : List ℕ) → Goes line.now self text ends.old result text ends.new }
     {
-        let at = self.at;
-        let had = self.counts;
-        let end = byte_from(line, at, b'\\');
-        if end == at {
+        let end = byte_from(line, self.at, b'\\');
+        if end == self.at {
             return self;
         }
-        let counts = had.part(end - at, ends);
         Scanner {
             at: end,
-            mode: ScanMode::Comment,
-            counts,
-            bare: self.bare,
-            hash: self.hash,
+            counts: self.counts.part(end - self.at, ends),
+            ..self
         }
     }
 
@@ -206,14 +169,9 @@ impl Scanner {
         requires { Bounded line.now self }
         ensures { Goes line.now self text.old ends.old result text.new ends.new }
     {
-        let mode = self.mode;
-        match mode {
-            ScanMode::Fields(quoting) => {
-                if is_unquoted(quoting) {
-                    return self.past_plain(line, text);
-                }
-                self
-            }
+        match self.mode {
+            ScanMode::Fields(Quoting::Outside) => self.past_plain(line, text),
+            ScanMode::Fields(_) => self,
             ScanMode::Comment => self.past_comment(line, ends),
         }
     }
@@ -223,11 +181,9 @@ impl Scanner {
         requires { Bounded line.now self × (self.at < length line.now) }
         ensures { (self.at < result.at) × Goes line.now self text.old ends.old result text.new ends.new }
     {
-        let at = self.at;
-        if joins_at(line, at) {
+        if joins_at(line, self.at) {
             return self.past_join(line, text, ends);
         }
-        let next = self.past_first(line, text, ends);
-        next.past_run(line, text, ends)
+        self.past_first(line, text, ends).past_run(line, text, ends)
     }
 }

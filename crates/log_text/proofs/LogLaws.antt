@@ -5,7 +5,7 @@ use Prim.Native.Nat.{ℕ, zero, suc, ◌+◌, ◌*◌, ◌-◌, ◌/◌, ◌%◌
 use native.Mathlib.Omega.{arith}
 use native.Mathlib.Numerals.{add-one}
 use lib.ListN.{length, length-append, length-take, length-drop, take, drop, get_or, set, take-append-drop}
-use lib.Seq.{take-append-le, drop-append-le, drop-append-add, take_all, take-add, take-suc, take-suc-set, drop-set-lt, drop-drop, get_or-drop, length-take-le}
+use lib.Seq.{take_at, drop_at, take-append-le, drop-append-le, drop-append-add, take_all, take-add, take-suc, take-suc-set, drop-set-lt, drop-drop, get_or-drop, length-take-le}
 use Rattle.text.proofs.Laws.{drop_take}
 use Rattle.record.specs.Read.{record_in}
 use Rattle.log_text.specs.Printed.{record_text}
@@ -121,24 +121,36 @@ pub shows_none : (block waited : List ℕ) → Shows block waited 0 waited
 unfolding record_lines lines_in
 shows_none block waited = record { part = omega arith; whole = refl; lines = sym (append-nil waited) }
 
+-- the next eight bytes from a place on
+pub record PartAt (block x s : List ℕ) (at : ℕ) : Type 0 where
+  pub within : at + 8 ≤ length block
+  pub part : take 8 (drop at block) ≡ x
+  pub rest : s ≡ drop (at + 8) block
+
+pub part_at : (block x s : List ℕ) (at : ℕ) → drop at block ≡ x ++ s → length x ≡ 8 → PartAt block x s at
+part_at block x s at e h =
+    let n = ap length e in
+    record {
+      within = omega (arith, length-drop at block, length-append x s, n);
+      part = rw e (take_at x s 8 h);
+      rest = sym (sym (drop-drop 8 at block) ∙ ap (drop 8) e ∙ drop_at x s 8 h);
+    }
+
 -- one record more
-pub shows_on : (block waited : List ℕ) {at waiting r : ℕ} {out new : List ℕ} → at + 8 ≤ length block → Shows block waited at (take waiting out)
-    → Added (record_text (record_in (take (at + 8 - at) (drop at block)))) out waiting new r → Shows block waited (at + 8) (take r new)
-shows_on block waited {at} {waiting} {r} {out} {new} h s a =
-    let p : List ℕ = take 8 (drop at block) in
-    let e : at + 8 - at ≡ 8 = omega arith in
-    let l : length p ≡ 8 = rw (length-take 8 (drop at block), length-drop at block) (omega arith) in
-    let t : List ℕ = record_text (record_in p) in
+pub shows_on : (block waited : List ℕ) {at waiting r : ℕ} {out new x : List ℕ} → at + 8 ≤ length block → take 8 (drop at block) ≡ x → Shows block waited at (take waiting out)
+    → Added (record_text (record_in x)) out waiting new r → Shows block waited (at + 8) (take r new)
+shows_on block waited {at} {waiting} {r} {out} {new} {x} h e s a =
+    let l : length x ≡ 8 = rw (← e) (rw (length-take 8 (drop at block), length-drop at block) (omega arith)) in
+    let t : List ℕ = record_text (record_in x) in
     record {
       part = h;
       whole = omega (arith, s.whole);
       lines =
           a.text_behind
-          ∙ ap (λ (n : ℕ). take waiting out ++ record_text (record_in (take n (drop at block)))) e
-          ∙ ap (λ (x : List ℕ). x ++ t) s.lines
+          ∙ ap (λ (y : List ℕ). y ++ t) s.lines
           ∙ append_assoc waited (record_lines (take at block)) t
-          ∙ ap (λ (x : List ℕ). waited ++ (record_lines (take at block) ++ x)) (sym (lines_one p l))
-          ∙ ap (λ (x : List ℕ). waited ++ x) (sym (lines_more block at s.part s.whole 8));
+          ∙ ap (λ (y : List ℕ). waited ++ (record_lines (take at block) ++ y)) (sym (lines_one x l) ∙ ap record_lines (sym e))
+          ∙ ap (λ (y : List ℕ). waited ++ y) (sym (lines_more block at s.part s.whole 8));
     }
 
 -- ---- what is left at the end

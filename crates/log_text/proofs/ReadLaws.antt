@@ -1,4 +1,5 @@
 -- Laws of a log that is read block by block. Assumes nothing.
+use Rattle.std.specs.Prelude.{None, Option, Some}
 use mathlib.Core.Path.{◌≡◌, refl, sym, ap, ◌∙◌, subst}
 use mathlib.Core.Bool.{Bool, true, false}
 use mathlib.Core.List.{List, [], ◌++◌, append-nil}
@@ -9,9 +10,7 @@ use lib.ListN.{length, length-append, length-drop, take, drop, drop_of_length-le
 use lib.Seq.{drop_at, length-take-le}
 use Rattle.text.proofs.Laws.{clash}
 use Rattle.streams.specs.Contract.{bytes_told, LoadedIn, counted_on}
-use Rattle.streams.specs.declared.input.Loaded.{Loaded}
 use Rattle.streams.proofs.InputLaws.{same_bytes, no_failure}
-use Rattle.streams.specs.declared.input.Loaded.TheVariants.{Bytes, Failed}
 use Rattle.streams.specs.declared.standard_output.Output.{Output}
 use Rattle.log_text.specs.LogText.{lines_in, record_lines, bytes_left, last_text}
 use Rattle.log_text.specs.Contract.{HandsOn, Follows, Finishes, Fails, Serves, LoadedBehind, Reads}
@@ -20,14 +19,14 @@ use Rattle.log_text.proofs.LogLaws.{lines_on, left_on, log_end}
 use Rattle.log_text.proofs.OutputLaws.{counted_then}
 
 -- ---- what a read told
-module _ {loaded : Loaded} {begun rest left : List ℕ} {before r : Run} where
-  pub serves_failed : loaded ≡ Failed → Fails before.output r → Serves loaded begun rest before left r
+module _ {loaded : (Option ℕ)} {begun rest left : List ℕ} {before r : Run} where
+  pub serves_failed : loaded ≡ None → Fails before.output r → Serves loaded begun rest before left r
   serves_failed e f = record { follows = λ n k h. no_failure k e; finishes = λ k. no_failure k e; fails = λ k. f }
 
-  pub serves_end : {n : ℕ} → loaded ≡ Bytes n → n ≡ 0 → Finishes begun before.output r → Serves loaded begun rest before left r
+  pub serves_end : {n : ℕ} → loaded ≡ Some n → n ≡ 0 → Finishes begun before.output r → Serves loaded begun rest before left r
   serves_end e z f = record { follows = λ m k h. let s = same_bytes e k in absurd (omega arith); finishes = λ k. f; fails = λ k. no_failure e k }
 
-  pub serves_bytes : {n : ℕ} {bytes : List ℕ} → loaded ≡ Bytes n → (n ≡ 0 → ⊥) → bytes ≡ begun ++ take n rest → Follows bytes before.output left r → Serves loaded begun rest before left r
+  pub serves_bytes : {n : ℕ} {bytes : List ℕ} → loaded ≡ Some n → (n ≡ 0 → ⊥) → bytes ≡ begun ++ take n rest → Follows bytes before.output left r → Serves loaded begun rest before left r
   serves_bytes {n} {bytes} e z b f = record {
     follows = λ m k h. subst (λ (x : List ℕ). Follows x before.output left r) (b ∙ ap (λ (x : ℕ). begun ++ take x rest) (same_bytes e k)) f;
     finishes = λ k. absurd (z (same_bytes e k));
@@ -35,7 +34,7 @@ module _ {loaded : Loaded} {begun rest left : List ℕ} {before r : Run} where
   }
 
 -- ---- bytes read behind others
-pub loaded_behind : (begun : ℕ) (old rest : List ℕ) {r : Loaded} → begun ≤ length old → LoadedIn rest r → LoadedBehind begun old (put_mid begun (length old - begun) old rest) r
+pub loaded_behind : (begun : ℕ) (old rest : List ℕ) {r : (Option ℕ)} → begun ≤ length old → LoadedIn rest r → LoadedBehind begun old (put_mid begun (length old - begun) old rest) r
 loaded_behind begun old rest {r} h l =
     let e : length (drop begun old) ≤ length old - begun = rw (length-drop begun old) (omega arith) in
     let z = drop_at (take begun old) (rest ++ post_of begun (length old - begun) old) begun (length-take-le begun old h) ∙ ap (λ (x : List ℕ). rest ++ x) (drop_of_length-le (drop begun old) e) ∙ append-nil rest in
@@ -75,11 +74,11 @@ module _ {input begun left : List ℕ} {before r : Run} (s : Reads input begun b
   }
 
   -- every byte that a read told was taken
-  pub reads_on : (loaded : Loaded) (rest : List ℕ) → Serves loaded begun rest before left r → Reads (input ++ take (bytes_told loaded) rest) left r
-  reads_on Failed rest v = reads_failed (input ++ take 0 rest) (v.fails refl)
-  reads_on (Bytes zero) rest v = subst (λ (x : List ℕ). Reads x left r) (sym (append-nil input)) (reads_end (v.finishes refl))
-  reads_on (Bytes (suc n)) rest v = reads_more (take (suc n) rest) (v.follows (suc n) refl (omega arith))
+  pub reads_on : (loaded : (Option ℕ)) (rest : List ℕ) → Serves loaded begun rest before left r → Reads (input ++ take (bytes_told loaded) rest) left r
+  reads_on None rest v = reads_failed (input ++ take 0 rest) (v.fails refl)
+  reads_on (Some zero) rest v = subst (λ (x : List ℕ). Reads x left r) (sym (append-nil input)) (reads_end (v.finishes refl))
+  reads_on (Some (suc n)) rest v = reads_more (take (suc n) rest) (v.follows (suc n) refl (omega arith))
 
-pub reads_behind : (begun : ℕ) (input : List ℕ) {old new left : List ℕ} {loaded : Loaded} {before r : Run} → Reads input (take begun old) before → before.going ≡ true
+pub reads_behind : (begun : ℕ) (input : List ℕ) {old new left : List ℕ} {loaded : (Option ℕ)} {before r : Run} → Reads input (take begun old) before → before.going ≡ true
     → LoadedBehind begun old new loaded → Serves loaded (take begun new) (drop begun new) before left r → Reads (input ++ take (bytes_told loaded) (drop begun new)) left r
 reads_behind begun input {new = new} {loaded = loaded} {before = before} s g b v = reads_on (subst (λ (x : List ℕ). Reads input x before) (sym b.kept) s) g loaded (drop begun new) v

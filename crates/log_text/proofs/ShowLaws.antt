@@ -1,4 +1,6 @@
 -- The laws of the lines that wait: none has more than 32 bytes, and each stands behind those before it. Assumes nothing.
+use Rattle.std.specs.Prelude.{None, Option, Some, Result, Ok, Err, unwrap_or}
+use Rattle.question.specs.declared.Age.{Age}
 use mathlib.Core.Path.{◌≡◌, refl, sym, ◌∙◌}
 use mathlib.Core.Bool.{Bool, true, false, cond}
 use mathlib.Core.List.{List, [], ◌++◌}
@@ -9,22 +11,20 @@ use lib.Signed.{lt_z}
 use lib.ListN.{length, length-append}
 use Rattle.text.specs.Bytes.{bytes}
 use Rattle.text.specs.Contract.{Wrote}
-use Rattle.text.specs.declared.buffer.Filled.{Filled}
-use Rattle.text.specs.declared.buffer.Filled.TheVariants.{Full}
-use Rattle.text.proofs.Buffers.{up_full}
-use Rattle.question.specs.declared.LastAuthentication.{LastAuthentication}
-use Rattle.question.specs.declared.LastAuthentication.TheVariants.{Never, Minutes}
+use Rattle.text.proofs.Buffers.{up_full, wrote_length, wrote_done, wrote_read}
 use Rattle.output.specs.Decimal.{decimal}
 use Rattle.output.proofs.DecimalLaws.{decimal_digits}
 use Rattle.record.specs.declared.Fields.{Fields}
-use Rattle.record.specs.declared.Record.{Record}
-use Rattle.record.specs.declared.Record.TheVariants.{Stored, OtherVersion, UnknownNumber, BadMinute, WrongLength}
+use Rattle.record.specs.declared.RecordFault.{RecordFault}
+use Rattle.record.specs.declared.RecordFault.TheVariants.{OtherVersion, UnknownNumber, BadMinute, WrongLength}
+use Rattle.record.specs.Fault.{fault_number}
 use Rattle.record.specs.Layout.{size_of}
 use Rattle.record.specs.Stored.{largest_size}
-use Rattle.record.specs.Read.{record_in, record_told}
+use Rattle.record.specs.Read.{record_in}
 use Rattle.record.proofs.Keeping.{known_most}
 use Rattle.record.proofs.RoundTrip.{Storable, read_known}
 use Rattle.log_text.specs.Printed.{minutes_text, age_text, auth_text, fields_text, refused_text, record_text}
+use Rattle.log_text.specs.Contract.{Added}
 
 -- ---- how long a line is
 auth_length : (auth : Bool) → length (auth_text auth) ≤ 1
@@ -43,10 +43,10 @@ minutes_length z h =
     go true h = omega (arith, length-append (bytes "-") (decimal (nat_abs z)))
     go false h = omega arith
 
-age_length : (age : LastAuthentication) → size_of age ≤ largest_size → length (age_text age) ≤ 9
+age_length : (age : Option Age) → size_of age ≤ largest_size → length (age_text age) ≤ 9
 unfolding age_text size_of
-age_length Never h = omega arith
-age_length (Minutes a) h = minutes_length a.0 h
+age_length None h = omega arith
+age_length (Some a) h = minutes_length a.0 h
 
 fields_length_law : (f : Fields) → Storable f → length (fields_text f) ≤ 32
 unfolding fields_text
@@ -61,18 +61,28 @@ refused_length : (n : ℕ) → n < 10 → length (refused_text n) ≤ 32
 unfolding refused_text
 refused_length n h = simp length-append (omega (arith, decimal_digits 0 n h))
 
+number_short : (fault : RecordFault) → fault_number fault < 10
+number_short OtherVersion = omega arith
+number_short UnknownNumber = omega arith
+number_short BadMinute = omega arith
+number_short WrongLength = omega arith
+
 -- no line has more than 32 bytes
 pub line_length : (s : List ℕ) → length (record_text (record_in s)) ≤ 32
-unfolding record_text record_told
+unfolding record_text
 line_length s = go (record_in s) refl
   where
-    go : (r : Record) → record_in s ≡ r → length (record_text r) ≤ 32
-    go (Stored f) e = fields_length_law f (read_known s f e)
-    go OtherVersion e = refused_length 1 (omega arith)
-    go UnknownNumber e = refused_length 2 (omega arith)
-    go BadMinute e = refused_length 3 (omega arith)
-    go WrongLength e = refused_length 4 (omega arith)
+    go : (r : Result Fields RecordFault) → record_in s ≡ r → length (record_text r) ≤ 32
+    go (Ok f) e = fields_length_law f (read_known s f e)
+    go (Err fault) e = refused_length (fault_number fault) (number_short fault)
 
 -- so that there is always room for it
-pub line_fits : (s : List ℕ) {old new : List ℕ} {n : ℕ} {r : Filled} → Wrote old new n (record_text (record_in s)) r → n + 32 ≤ length old → r ≡ Full → ⊥
+pub line_fits : (s : List ℕ) {old new : List ℕ} {n : ℕ} {r : Option ℕ} → Wrote old new n (record_text (record_in s)) r → n + 32 ≤ length old → r ≡ None → ⊥
 line_fits s {old} {new} {n} w h e = let k = up_full (length old) (n + length (record_text (record_in s))) (sym w.answer ∙ e) in omega (arith, line_length s)
+
+pub added_line : (s : List ℕ) {old new : List ℕ} {n : ℕ} {r : Option ℕ} → Wrote old new n (record_text (record_in s)) r → n + 32 ≤ length old → Added (record_text (record_in s)) old n new (unwrap_or r n)
+added_line s {old} {new} {n} {r} w h = go r refl
+  where
+    go : (q : Option ℕ) → r ≡ q → Added (record_text (record_in s)) old n new (unwrap_or q n)
+    go (Some k) e = record { within = omega (arith, (wrote_done w e).0, wrote_length w); text_behind = wrote_read w e }
+    go None e = absurd (line_fits s w h e)

@@ -1,9 +1,7 @@
 -- What the contracts of the printer of a log say, and a series of its calls.
-use Rattle.std.specs.Prelude.{◌≡◌, true, false, List, [], ◌++◌, ℕ, ◌+◌, ◌%◌, ◌≤◌, ◌<◌, length, take, drop}
+use Rattle.std.specs.Prelude.{◌≡◌, true, false, List, [], ◌++◌, ℕ, ◌+◌, ◌%◌, ◌≤◌, ◌<◌, length, take, drop, None, Option, Some}
 use Rattle.record.specs.Layout.{record_length}
 use Rattle.streams.specs.Contract.{LoadedIn, counted_on}
-use Rattle.streams.specs.declared.input.Loaded.{Loaded}
-use Rattle.streams.specs.declared.input.Loaded.TheVariants.{Bytes, Failed}
 use Rattle.streams.specs.declared.standard_output.Output.{Output}
 use Rattle.log_text.specs.LogText.{record_lines, bytes_left, last_text, log_text}
 use Rattle.log_text.specs.declared.block.Shown.{Shown}
@@ -63,13 +61,13 @@ pub record Fails (before : Output) (r : Run) : Type 0 where
   pub ended : r.ended ≡ false
 
 -- what a read told was taken: its bytes, all of them, behind those of a record that had begun, or the end of the log
-pub record Serves (loaded : Loaded) (begun : List ℕ) (rest : List ℕ) (before : Run) (left : List ℕ) (r : Run) : Type 0 where
-  pub follows : (n : ℕ) → loaded ≡ Bytes n → 0 < n → Follows (begun ++ take n rest) before.output left r
-  pub finishes : loaded ≡ Bytes 0 → Finishes begun before.output r
-  pub fails : loaded ≡ Failed → Fails before.output r
+pub record Serves (loaded : Option ℕ) (begun : List ℕ) (rest : List ℕ) (before : Run) (left : List ℕ) (r : Run) : Type 0 where
+  pub follows : (n : ℕ) → loaded ≡ Some n → 0 < n → Follows (begun ++ take n rest) before.output left r
+  pub finishes : loaded ≡ Some 0 → Finishes begun before.output r
+  pub fails : loaded ≡ None → Fails before.output r
 
 -- a read told of the bytes behind the first ones, which stay
-pub record LoadedBehind (begun : ℕ) (old new : List ℕ) (r : Loaded) : Type 0 where
+pub record LoadedBehind (begun : ℕ) (old new : List ℕ) (r : Option ℕ) : Type 0 where
   pub kept : take begun new ≡ take begun old
   pub loaded : LoadedIn (drop begun new) r
 

@@ -7,7 +7,6 @@ ghost use Rattle.log_text.specs.Contract.{Added, Shows, Reached};
 
 use super::print::put_record;
 use record::Record;
-use text::buffer::Filled;
 
 // No line has more bytes.
 const LINE: usize = 32;
@@ -24,10 +23,7 @@ fn add_line(bytes: &[u8], out: &mut [u8], waiting: usize) -> usize
     requires { waiting + 32 ≤ length out.old }
     ensures { Added (record_text (record_in bytes.now)) out.old waiting out.new result }
 {
-    match put_record(bytes, out, waiting) {
-        Filled::Done(n) => n,
-        Filled::Full => waiting,
-    }
+    put_record(bytes, out, waiting).unwrap_or(waiting)
 }
 
 // Puts the line of each whole record of a block behind those that wait, as long as there is room for another.
@@ -38,10 +34,12 @@ pub fn show_block(block: &[u8], out: &mut [u8], start: usize) -> Shown
 {
     let mut waiting = start;
     let mut at = 0;
-    while block.len() - at >= Record::BYTES && out.len() - waiting >= LINE {
-        let end = at + Record::BYTES;
-        waiting = add_line(&block[at..end], out, waiting);
-        at = end;
+    for bytes in block.chunks_exact(Record::BYTES) {
+        if out.len() - waiting < LINE {
+            return Shown { bytes: at, waiting };
+        }
+        waiting = add_line(bytes, out, waiting);
+        at += Record::BYTES;
     }
     Shown { bytes: at, waiting }
 }
@@ -51,7 +49,7 @@ pub fn show_last(left: &[u8], out: &mut [u8], waiting: usize) -> usize
     requires { waiting + 32 ≤ length out.old }
     ensures { Added (last_text left.now) out.old waiting out.new result }
 {
-    if left.len() == 0 {
+    if left.is_empty() {
         return waiting;
     }
     add_line(left, out, waiting)
@@ -62,9 +60,7 @@ pub fn move_front(block: &mut [u8], from: usize, end: usize)
     requires { (from ≤ end) × (end ≤ length block.old) }
     ensures { take (end - from) block.new ≡ take (end - from) (drop from block.old) }
 {
-    let mut i = 0;
-    while i < end - from {
+    for i in 0..end - from {
         block[i] = block[from + i];
-        i += 1;
     }
 }

@@ -6,14 +6,15 @@ ghost use Rattle.log_text.specs.Printed.{minutes_text, age_text, auth_text, fiel
 
 use output::behind::{then_all, then_decimal};
 use output::decimal::put_decimal;
-use question::LastAuthentication;
+use question::Age;
+use record::Fields;
 use record::age::magnitude;
 use record::read::read_record;
-use record::{Fields, Record};
-use text::buffer::{Filled, put_all};
+use text::buffer::put_all;
 
 // Minutes behind what was put before, `-` before them where they are below zero.
-fn then_minutes(filled: Filled, minutes: i32, out: &mut [u8]) -> Filled
+#[tactic(auto, unfolding(crate::specs::Printed::minutes_text))]
+fn then_minutes(filled: Option<usize>, minutes: i32, out: &mut [u8]) -> Option<usize>
     ensures { WroteAfter filled out.old out.new (minutes_text minutes) result }
 {
     if minutes < 0 {
@@ -24,17 +25,19 @@ fn then_minutes(filled: Filled, minutes: i32, out: &mut [u8]) -> Filled
 }
 
 // An age behind what was put before.
-fn then_age(filled: Filled, age: LastAuthentication, out: &mut [u8]) -> Filled
+#[tactic(auto, unfolding(crate::specs::Printed::age_text))]
+fn then_age(filled: Option<usize>, age: Option<Age>, out: &mut [u8]) -> Option<usize>
     ensures { WroteAfter filled out.old out.new (age_text age) result }
 {
     match age {
-        LastAuthentication::Never => then_all(filled, b"never", out),
-        LastAuthentication::Minutes(minutes) => then_minutes(filled, minutes.0, out),
+        None => then_all(filled, b"never", out),
+        Some(minutes) => then_minutes(filled, minutes.0, out),
     }
 }
 
 // The auth behind what was put before.
-fn then_auth(filled: Filled, auth: bool, out: &mut [u8]) -> Filled
+#[tactic(auto, unfolding(crate::specs::Printed::auth_text))]
+fn then_auth(filled: Option<usize>, auth: bool, out: &mut [u8]) -> Option<usize>
     ensures { WroteAfter filled out.old out.new (auth_text auth) result }
 {
     if auth {
@@ -44,7 +47,7 @@ fn then_auth(filled: Filled, auth: bool, out: &mut [u8]) -> Filled
 }
 
 // The line of stored fields, from a place of the buffer on.
-fn put_fields(fields: Fields, out: &mut [u8], n: usize) -> Filled
+fn put_fields(fields: Fields, out: &mut [u8], n: usize) -> Option<usize>
     ensures { Wrote out.old out.new n (fields_text fields) result }
 {
     let minute = fields.minute;
@@ -57,7 +60,8 @@ fn put_fields(fields: Fields, out: &mut [u8], n: usize) -> Filled
 }
 
 // The line of a record that is refused, from a place of the buffer on.
-fn put_refused(number: u8, out: &mut [u8], n: usize) -> Filled
+#[tactic(auto, unfolding(crate::specs::Printed::refused_text))]
+fn put_refused(number: u8, out: &mut [u8], n: usize) -> Option<usize>
     ensures { Wrote out.old out.new n (refused_text number) result }
 {
     let numbered = then_decimal(put_all(out, n, b"refused "), number as usize, out);
@@ -65,12 +69,11 @@ fn put_refused(number: u8, out: &mut [u8], n: usize) -> Filled
 }
 
 // The line of these bytes as a record, from a place of the buffer on.
-pub fn put_record(bytes: &[u8], out: &mut [u8], n: usize) -> Filled
+pub fn put_record(bytes: &[u8], out: &mut [u8], n: usize) -> Option<usize>
     ensures { Wrote out.old out.new n (record_text (record_in bytes.now)) result }
 {
-    let record = read_record(bytes);
-    match record {
-        Record::Stored(fields) => put_fields(fields, out, n),
-        _ => put_refused(record.number(), out, n),
+    match read_record(bytes) {
+        Ok(fields) => put_fields(fields, out, n),
+        Err(fault) => put_refused(fault.number(), out, n),
     }
 }

@@ -6,8 +6,8 @@ ghost use Rattle.log_text.specs.Contract.{HandsOn, Follows, LoadedBehind, Serves
 
 use super::block::{move_front, show_block, show_last};
 use record::Record;
-use streams::buffers::large_buffer;
-use streams::input::{Input, Loaded, read_some};
+use streams::buffers::zeros;
+use streams::input::{Input, read_some};
 use streams::standard::Streams;
 use streams::standard_output::Output;
 
@@ -40,12 +40,11 @@ impl Run {
     fn stopped(self) -> Run
         ensures { (result.begun ≡ 0) × (result.output ≡ self.output) × (result.going ≡ false) × (result.ended ≡ false) }
     {
-        let output = self.output;
         Run {
             begun: 0,
-            output,
             going: false,
             ended: false,
+            ..self
         }
     }
 }
@@ -65,11 +64,12 @@ fn print_records(block: &[u8], out: &mut [u8], start: Output) -> Output
 {
     let mut output = start;
     let mut at = 0;
+    // Stays a while: the step differs from turn to turn.
     while block.len() - at >= Record::BYTES && output.is_whole() {
         let shown = show_block(&block[at..], out, 0);
         let waiting = shown.waiting;
         let lines = &out[..];
-        output = write_waiting(output, lines, waiting, &lines[0..waiting]);
+        output = write_waiting(output, lines, waiting, &lines[..waiting]);
         at += shown.bytes;
     }
     output
@@ -82,7 +82,7 @@ fn print_last(left: &[u8], out: &mut [u8], output: Output) -> Output
 {
     let waiting = show_last(left, out, 0);
     let lines = &out[..];
-    write_waiting(output, lines, waiting, &lines[0..waiting])
+    write_waiting(output, lines, waiting, &lines[..waiting])
 }
 
 // Prints the lines of the whole records among the block's first bytes, and keeps what is left at its front.
@@ -91,7 +91,7 @@ fn take_block(block: &mut [u8], end: usize, out: &mut [u8], start: Output) -> Ru
     ensures begun_in_bounds { result.begun ≤ length block.new }
     ensures follows { Follows (take end block.old) start (take result.begun block.new) result }
 {
-    let output = print_records(&block[0..end], out, start);
+    let output = print_records(&block[..end], out, start);
     let begun = end % Record::BYTES;
     move_front(block, end - begun, end);
     Run {
@@ -103,7 +103,7 @@ fn take_block(block: &mut [u8], end: usize, out: &mut [u8], start: Output) -> Ru
 }
 
 // What a read told is taken: the bytes behind those of a record that has begun, or the log's end. A failure was told.
-fn take_loaded(loaded: Loaded, block: &mut [u8], out: &mut [u8], run: Run) -> Run
+fn take_loaded(loaded: Option<usize>, block: &mut [u8], out: &mut [u8], run: Run) -> Run
     requires { LoadedIn (drop run.begun block.old) loaded × (run.begun ≤ length block.old) × (32 ≤ length out.old) }
     ensures begun_in_bounds { result.begun ≤ length block.new }
     ensures serves { Serves loaded (take run.begun block.old) (drop run.begun block.old) run (take result.begun block.new) result }
@@ -111,10 +111,10 @@ fn take_loaded(loaded: Loaded, block: &mut [u8], out: &mut [u8], run: Run) -> Ru
     let begun = run.begun;
     let output = run.output;
     match loaded {
-        Loaded::Failed => run.stopped(),
-        Loaded::Bytes(n) => {
+        None => run.stopped(),
+        Some(n) => {
             if n == 0 {
-                let last = print_last(&block[0..begun], out, output);
+                let last = print_last(&block[..begun], out, output);
                 return Run {
                     begun: 0,
                     output: last,
@@ -128,25 +128,25 @@ fn take_loaded(loaded: Loaded, block: &mut [u8], out: &mut [u8], run: Run) -> Ru
 }
 
 // Reads once, behind the bytes of a record that has begun, which stay.
-fn read_behind(input: Input<'_>, block: &mut [u8], begun: usize) -> Loaded
+fn read_behind(input: Input<'_>, block: &mut [u8], begun: usize) -> Option<usize>
     requires { begun ≤ length block.old }
     ensures { LoadedBehind begun block.old block.new result }
 {
     read_some(input, &mut block[begun..])
 }
 
-// Nothing says that the log ends, so the turns are counted down from a number that no run uses up.
+// Nothing says that the log ends, so the turns are counted up to a number that no run comes to.
 fn read_blocks(streams: Streams, input: Input<'_>, block: &mut [u8], out: &mut [u8]) -> Run
     requires { 32 ≤ length out.old }
     ensures { PrintsLog result }
 {
     let mut run = Run::start(streams);
-    let mut turns = u64::MAX;
-    while turns > 0 && run.going {
-        let begun = run.begun;
-        let loaded = read_behind(input, block, begun);
+    for _ in 0..u64::MAX {
+        if !run.going {
+            break;
+        }
+        let loaded = read_behind(input, block, run.begun);
         run = take_loaded(loaded, block, out, run);
-        turns -= 1;
     }
     run
 }
@@ -155,7 +155,7 @@ fn read_blocks(streams: Streams, input: Input<'_>, block: &mut [u8], out: &mut [
 pub fn show(streams: Streams, input: Input<'_>) -> Run
     ensures { PrintsLog result }
 {
-    let mut block = large_buffer();
-    let mut out = large_buffer();
+    let mut block = zeros::<65536>();
+    let mut out = zeros::<65536>();
     read_blocks(streams, input, &mut block, &mut out)
 }

@@ -1,4 +1,5 @@
 -- The laws of matching, one expansion after the other. Assumes nothing.
+use Rattle.std.specs.Prelude.{Err, Ok}
 use mathlib.Core.Path.{◌≡◌, sym, ap, ◌∙◌}
 use mathlib.Core.Bool.{true, false}
 use mathlib.Core.List.{List, [], ◌∷◌}
@@ -6,10 +7,8 @@ use Prim.Native.Nat.{ℕ, ◌+◌, ◌≤◌, ◌<◌}
 use borrow.Author.Tests.{le-leb, lt-leb}
 use lib.ListN.{length, drop}
 use Rattle.text.specs.Limits.{field_limit}
-use Rattle.text.specs.Lists.{any}
 use Rattle.text.proofs.Laws.{either_no}
 use Rattle.text.proofs.Lists.{any_on, any_off, any_end}
-use Rattle.fault.specs.Fault.{fault, value}
 use Rattle.fault.specs.declared.Cause.{Cause}
 use Rattle.glob.specs.Match.{matches}
 use Rattle.pattern.specs.declared.Syntax.{Syntax}
@@ -21,7 +20,7 @@ use Rattle.matching.specs.Whole.{matches_some, field_expansions, matches_pattern
 
 -- one expansion alone
 pub matches_alone : (e s : List ℕ) → matches e s ≡ matches_some (e ∷ []) s
-unfolding matches_some any
+unfolding matches_some
 matches_alone e s = sym (either_no (matches e s))
 
 module _ (syntax : Syntax) (p s : List ℕ) where
@@ -41,17 +40,17 @@ module _ (syntax : Syntax) (p s : List ℕ) where
 
   -- ---- a pattern that a field can hold
   pub long_matches : field_limit < length p → false ≡ matches_pattern syntax p s
-  unfolding matches_pattern field_expansions matches_some any
+  unfolding matches_pattern field_expansions matches_some
   long_matches h = rw (lt-leb _ _ h)
 
   module _ (h : length p ≤ field_limit) where
-    pub fault_matches : {c : Cause} → expanded syntax p ≡ fault c → false ≡ matches_pattern syntax p s
-    unfolding matches_pattern field_expansions expansions_of matches_some any
+    pub fault_matches : {c : Cause} → expanded syntax p ≡ Err c → false ≡ matches_pattern syntax p s
+    unfolding matches_pattern field_expansions expansions_of matches_some
     fault_matches e = rw (le-leb _ _ h, e)
 
     pub field_matches : matches_some (expansions_of syntax p) s ≡ matches_pattern syntax p s
     unfolding matches_pattern field_expansions
     field_matches = rw (le-leb _ _ h)
 
-    pub matches_are : {es : List (List ℕ)} → expanded syntax p ≡ value es → matches_pattern syntax p s ≡ matches_some es s
+    pub matches_are : {es : List (List ℕ)} → expanded syntax p ≡ Ok es → matches_pattern syntax p s ≡ matches_some es s
     matches_are e = sym field_matches ∙ ap (λ xs. matches_some xs s) (expansions_are syntax p _ e)

@@ -1,6 +1,5 @@
 -- One alternative of a user or group condition (01: "parted at its first `@` outside a set and not after a backslash").
-use Rattle.std.specs.Prelude.{ℕ, Bool, true, false, not, cond, ◌&&◌, ◌||◌, List, [], ◌∷◌}
-use Rattle.std.proofs.Math.Option.{Option, none, some}
+use Rattle.std.specs.Prelude.{ℕ, Bool, true, false, not, cond, ◌&&◌, ◌||◌, List, [], ◌∷◌, None, Option, Some}
 use Rattle.text.specs.Bytes.{byte, is}
 use Rattle.text.specs.Lists.{null, has, onto}
 use Rattle.text.specs.Slice.{head_is}
@@ -42,12 +41,12 @@ good_part p = not (null p) && not (head_is (byte "!") p)
 
 -- 01: a second such `@` is malformed
 abbrev pub from_parts : List (List ℕ) → Option Alternative
-from_parts [] = none
-from_parts (n ∷ []) = cond (good_part n) (some record { name = n; host = none }) none
-from_parts (n ∷ h ∷ []) = cond (good_part n && good_part h) (some record { name = n; host = some h }) none
-from_parts (n ∷ h ∷ x ∷ ps) = none
+from_parts [] = None
+from_parts (n ∷ []) = cond (good_part n) (Some record { name = n; host = None }) None
+from_parts (n ∷ h ∷ []) = cond (good_part n && good_part h) (Some record { name = n; host = Some h }) None
+from_parts (n ∷ h ∷ x ∷ ps) = None
 
 -- 01: any colon or any `~` is malformed
 unfoldable pub alternative_of : List ℕ → Option Alternative
 unfolding has parts_of good_part
-alternative_of a = cond (has (byte ":") a || has (byte "~") a) none (from_parts (parts_of Free a))
+alternative_of a = cond (has (byte ":") a || has (byte "~") a) None (from_parts (parts_of Free a))

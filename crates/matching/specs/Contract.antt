@@ -1,9 +1,9 @@
 -- What the answers of the functions say: they hold places and numbers, those of the definitions lists.
-use Rattle.std.specs.Prelude.{ℕ, ◌+◌, ◌-◌, ◌≤◌, ◌<◌, ◌≡◌, Bool, false, cond, List, [], ◌∷◌, length, drop, take}
-use Rattle.std.proofs.Math.Option.{Option, none, some}
+use Rattle.std.specs.Option.{option_map}
+use Rattle.std.specs.Prelude.{ℕ, ◌+◌, ◌-◌, ◌≤◌, ◌<◌, ◌≡◌, Bool, false, cond, List, [], ◌∷◌, length, ltb, drop, take, None, Ok, Option, Result, Some}
 use Rattle.text.specs.Limits.{field_limit}
 use Rattle.text.specs.Lists.{has}
-use Rattle.fault.specs.Fault.{Reading, fault, value}
+use Rattle.fault.specs.Fault.{and_then}
 use Rattle.fault.specs.declared.Cause.{Cause}
 use Rattle.pattern.specs.declared.Syntax.{Syntax}
 use Rattle.pattern.specs.Tree.{expanded}
@@ -13,20 +13,19 @@ use Rattle.matching.specs.Alternative.{Alternative, parts_of, alternative_of}
 use Rattle.matching.specs.declared.alternative.ByteContext.{ByteContext}
 use Rattle.matching.specs.declared.alternative.ByteContext.TheVariants.{Free}
 use Rattle.matching.specs.declared.alternative.Parted.{Parted}
-use Rattle.matching.specs.declared.alternative.Parted.TheVariants.{Malformed, Name, NameAtHost}
+use Rattle.matching.specs.declared.alternative.Parted.TheVariants.{Name, NameAtHost}
 use Rattle.matching.specs.declared.field.Expanded.{Expanded}
-use Rattle.matching.specs.declared.field.Expanded.TheVariants.{Fault, Flat, Number}
+use Rattle.matching.specs.declared.field.Expanded.TheVariants.{Flat, Number}
 
 -- ---- the pattern of a field
 
--- what is told of the expansions of a pattern: their fault, that it is flat, or their number
-abbrev pub expanded_as : Bool → Reading Cause (List (List ℕ)) → Expanded
-expanded_as flat (fault c) = Fault c
-expanded_as flat (value es) = cond flat Flat (Number (length es))
+-- what is told of the expansions of a pattern: that it is flat, or their number
+abbrev pub expanded_as : Bool → List (List ℕ) → Expanded
+expanded_as flat es = cond flat Flat (Number (length es))
 
 -- the pattern of a field, as it is told
-unfoldable pub pattern_field : Syntax → List ℕ → Expanded
-pattern_field syntax p = expanded_as (is_flat syntax p) (expanded syntax p)
+unfoldable pub pattern_field : Syntax → List ℕ → Result Expanded Cause
+pattern_field syntax p = and_then (expanded syntax p) (λ es. Ok (expanded_as (is_flat syntax p) es))
 
 -- ---- the expansions of a pattern
 
@@ -61,6 +60,10 @@ pub record Simple (c : ℕ) : Type 0 where
   pub no_slash : c ≡ 92 → ⊥
   pub no_bracket : c ≡ 91 → ⊥
 
+-- such a byte, tested range by range
+abbrev pub is_simple : ℕ → Bool
+is_simple c = cond (ltb 92 c) (ltb c 126) (cond (ltb 64 c) (ltb c 91) (ltb c 58))
+
 -- bytes that are one part, without a colon or a `~`
 pub record SimpleName (a : List ℕ) : Type 0 where
   pub no_colon : has 58 a ≡ false
@@ -68,18 +71,17 @@ pub record SimpleName (a : List ℕ) : Type 0 where
   pub one : parts_of Free a ≡ a ∷ []
 
 -- the alternative that an answer tells
-abbrev pub parted_in : List ℕ → Parted → Option Alternative
-parted_in a Malformed = none
-parted_in a Name = some record { name = a; host = none }
-parted_in a (NameAtHost i) = some record { name = take i a; host = some (drop (i + 1) a) }
+abbrev pub parted_in : List ℕ → Parted → Alternative
+parted_in a Name = record { name = a; host = None }
+parted_in a (NameAtHost i) = record { name = take i a; host = Some (drop (i + 1) a) }
 
 -- the `@` told stands in the bytes
-abbrev pub PartedWithin : List ℕ → Parted → Type 0
-PartedWithin a Malformed = Unit {0}
-PartedWithin a Name = Unit {0}
-PartedWithin a (NameAtHost i) = i < length a
+abbrev pub PartedWithin : List ℕ → Option Parted → Type 0
+PartedWithin a None = Unit {0}
+PartedWithin a (Some Name) = Unit {0}
+PartedWithin a (Some (NameAtHost i)) = i < length a
 
 -- an answer tells the alternative that the bytes are
-pub record TellsAlternative (a : List ℕ) (r : Parted) : Type 0 where
+pub record TellsAlternative (a : List ℕ) (r : Option Parted) : Type 0 where
   pub within : PartedWithin a r
-  pub same : parted_in a r ≡ alternative_of a
+  pub same : option_map (parted_in a) r ≡ alternative_of a

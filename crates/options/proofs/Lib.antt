@@ -1,5 +1,3 @@
-pub mod SpanLaws
-pub mod TimeoutLaws
 pub mod IdLaws
 pub mod ReadLaws
 pub mod SetLaws

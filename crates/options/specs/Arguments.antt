@@ -1,7 +1,7 @@
 -- Argument patterns: which arguments they cover, and whether all of these match (01: "an argument must match each that covers it").
+use Rattle.std.specs.List.{list_all}
 use Rattle.std.specs.Prelude.{Bool, true, not, ◌&&◌, ◌||◌, List, [], ◌∷◌, ◌++◌, ℕ, ◌+◌}
 use Rattle.text.specs.Class.{Range, in_range}
-use Rattle.text.specs.Lists.{all}
 use Rattle.matching.specs.Whole.{matches_some}
 
 -- the positions that a pattern covers, from 1 on, and its brace-free expansions
@@ -16,7 +16,7 @@ passes i a p = not (in_range p.positions i) || matches_some p.expansions a
 -- the arguments from position i on pass all patterns in force
 unfoldable pub arguments_from : ℕ → List ArgumentPattern → List (List ℕ) → Bool
 arguments_from i ps [] = true
-arguments_from i ps (a ∷ rest) = all (passes i a) ps && arguments_from (i + 1) ps rest
+arguments_from i ps (a ∷ rest) = list_all (passes i a) ps && arguments_from (i + 1) ps rest
 
 -- the arguments, the first at position 1, pass all patterns in force
 unfoldable pub arguments_pass : List ArgumentPattern → List (List ℕ) → Bool

@@ -1,11 +1,11 @@
 -- What the values of the code stand for, and what is kept of a line's settings while its fields are read: cited by contracts and proofs only.
-use Rattle.std.specs.Prelude.{◌≡◌, Bool, true, false, not, cond, ◌||◌, List, [], ◌∷◌, ℕ, zero, suc, ◌+◌, ℤ, take, get_or, set}
-use Rattle.std.proofs.Math.Option.{Option, none, some}
+use Rattle.std.specs.List.{list_all, list_any}
+use Rattle.std.specs.Option.{option_map}
+use denote.Ref.{Bor}
+use Rattle.std.specs.Prelude.{Bool, true, false, not, cond, ◌||◌, List, [], ◌∷◌, ℕ, zero, suc, ◌+◌, ltb, take, get_or, set, Err, None, Ok, Option, Result, Some}
 use Rattle.text.specs.Bytes.{byte}
 use Rattle.text.specs.Class.{Range, range}
-use Rattle.text.specs.Lists.{all, any}
 use Rattle.text.specs.Parts.{Parts, part_at}
-use Rattle.fault.specs.Fault.{Reading, fault, value}
 use Rattle.fault.specs.declared.Cause.{Cause}
 use Rattle.pattern.specs.declared.Syntax.TheVariants.{Plain}
 use Rattle.pattern.specs.Whole.{expansions_of}
@@ -14,52 +14,32 @@ use Rattle.options.specs.declared.Id.{Id}
 use Rattle.options.specs.declared.Id.TheVariants.{Uid, Euid, Gid, Egid}
 use Rattle.options.specs.declared.ids.IdName.{IdName}
 use Rattle.options.specs.declared.line.LineOptions.{LineOptions}
-use Rattle.options.specs.declared.read.OptionRead.{OptionRead}
-use Rattle.options.specs.declared.read.OptionRead.TheVariants.{NotOption, Faulty, Set}
 use Rattle.options.specs.declared.setting.OptionSetting.{OptionSetting}
 use Rattle.options.specs.declared.setting.OptionSetting.TheVariants.{SetId, SetAuth, SetTimeout, SetNargs, SetArgument, SetShell}
-use Rattle.options.specs.declared.set.Auth.{Auth}
-use Rattle.options.specs.declared.set.Auth.TheVariants.{Unset, Yes, No}
 use Rattle.options.specs.declared.set.OptionSet.{OptionSet}
-use Rattle.options.specs.declared.setting.Part.{Part}
 use Rattle.options.specs.declared.span.Span.{Span}
-use Rattle.options.specs.declared.span.Span.TheVariants.{Nothing, Between}
-use Rattle.options.specs.declared.timeout.Timeout.{Timeout}
 use Rattle.options.specs.Options.{Options}
 use Rattle.options.specs.Arguments.{ArgumentPattern, passes}
 use Rattle.options.specs.Read.{Setting, id_limit, last_position, set_id, set_auth, set_timeout, set_nargs, set_shell, set_argument, is_option, twice}
-use Rattle.options.specs.declared.timeout.Timeout.TheVariants.{Unset as NoTimeout, Minutes}
 
--- a range, or none
-abbrev pub span_in : Span → Option Range
-span_in Nothing = none
-span_in (Between m n) = some (range m n)
+-- the range that a span is
+abbrev pub span_in : Span → Range
+span_in s = range s.low s.high
 
--- auth, or none
-abbrev pub auth_in : Auth → Option Bool
-auth_in Unset = none
-auth_in Yes = some true
-auth_in No = some false
-
--- a timeout, or none
-abbrev pub timeout_in : Timeout → Option ℤ
-timeout_in NoTimeout = none
-timeout_in (Minutes m) = some m
-
--- a name, or none
-unfoldable pub id_in : IdName → Option (List ℕ)
-id_in n = cond n.given (some (take n.size n.bytes)) none
+-- the bytes of a name
+unfoldable pub id_in : IdName → List ℕ
+id_in n = take n.size n.bytes
 
 -- the meaning's set of the set by value
 unfoldable pub options_in : OptionSet → Options
 options_in o = record {
-  uid = id_in o.uid;
-  euid = id_in o.euid;
-  gid = id_in o.gid;
-  egid = id_in o.egid;
-  auth = auth_in o.auth;
-  timeout = timeout_in o.timeout;
-  nargs = span_in o.nargs;
+  uid = option_map id_in o.uid;
+  euid = option_map id_in o.euid;
+  gid = option_map id_in o.gid;
+  egid = option_map id_in o.egid;
+  auth = o.auth;
+  timeout = o.timeout;
+  nargs = option_map span_in o.nargs;
 }
 
 -- one of the four ids of a set
@@ -69,10 +49,15 @@ id_at o Euid = o.euid
 id_at o Gid = o.gid
 id_at o Egid = o.egid
 
+-- a text parted around a byte
+abbrev pub parts_in : Option (Bor (List ℕ) × Bor (List ℕ)) → Option Parts
+parts_in None = None
+parts_in (Some p) = Some (record { front = p.0.now; back = p.1.now })
+
 -- what stands behind the byte that parts
 abbrev pub back_of : Option Parts → List ℕ
-back_of none = []
-back_of (some p) = p.back
+back_of None = []
+back_of (Some p) = p.back
 
 -- the value of a field's text: what stands just behind its first `=`
 unfoldable pub value_in : List ℕ → List ℕ
@@ -83,27 +68,29 @@ abbrev pub setting_in : List ℕ → OptionSetting → Setting
 setting_in v (SetId i) = set_id i (take id_limit v)
 setting_in v (SetAuth b) = set_auth b
 setting_in v (SetTimeout m) = set_timeout m
-setting_in v (SetNargs m n) = set_nargs (range m n)
-setting_in v (SetArgument m n) = set_argument (range m n) (expansions_of Plain v)
+setting_in v (SetNargs s) = set_nargs (span_in s)
+setting_in v (SetArgument s) = set_argument (span_in s) (expansions_of Plain v)
 setting_in v SetShell = set_shell
 
--- what was read of a text with that value
-abbrev pub read_in : List ℕ → OptionRead → Option (Reading Cause Setting)
-read_in v NotOption = none
-read_in v (Faulty c) = some (fault c)
-read_in v (Set s) = some (value (setting_in v s))
+-- the setting that was read of that value, or its fault
+abbrev pub set_in : List ℕ → Result OptionSetting Cause → Result Setting Cause
+set_in v (Err c) = Err c
+set_in v (Ok s) = Ok (setting_in v s)
 
--- which option a setting sets and to what, but for the ids, whose value stands in the text
-pub record PartOf (s : Setting) (p : Part) : Type 0 where
-  pub which : p.0 ≡ s.which
-  pub auth : auth_in p.1 ≡ s.options.auth
-  pub timeout : timeout_in p.2 ≡ s.options.timeout
-  pub nargs : span_in p.3 ≡ s.options.nargs
+-- what was read of a text with that value: none where it is no option
+abbrev pub read_in : List ℕ → Result (Option OptionSetting) Cause → Option (Result Setting Cause)
+read_in v (Err c) = Some (Err c)
+read_in v (Ok None) = None
+read_in v (Ok (Some s)) = Some (Ok (setting_in v s))
+
+-- the number of an option that may not stand twice
+abbrev pub once : ℕ → Option ℕ
+once k = cond (ltb k 8) (Some k) None
 
 -- which of n options, from number k on, stand among the settings
 unfoldable pub standing : ℕ → ℕ → List Setting → List Bool
 standing zero k ss = []
-standing (suc n) k ss = any (is_option k) ss ∷ standing n (k + 1) ss
+standing (suc n) k ss = list_any (is_option k) ss ∷ standing n (k + 1) ss
 
 -- what is kept of a line's settings to see that none stands twice
 unfoldable pub line_of : List Setting → LineOptions
@@ -121,7 +108,7 @@ pattern_at r p = record { positions = r; expansions = field_expansions Plain p }
 unfoldable pub failures_from : ℕ → ℕ → List ArgumentPattern → List (List ℕ) → List Bool
 failures_from zero i ps xs = []
 failures_from (suc n) i ps [] = false ∷ failures_from n (i + 1) ps []
-failures_from (suc n) i ps (a ∷ xs) = not (all (passes i a) ps) ∷ failures_from n (i + 1) ps xs
+failures_from (suc n) i ps (a ∷ xs) = not (list_all (passes i a) ps) ∷ failures_from n (i + 1) ps xs
 
 -- what is kept of the patterns in force: the failures among the positions that a pattern can cover
 unfoldable pub failures : List ArgumentPattern → List (List ℕ) → List Bool
@@ -138,6 +125,6 @@ abbrev pub failures_after : List ℕ → OptionSetting → List (List ℕ) → L
 failures_after v (SetId i) xs fs = fs
 failures_after v (SetAuth b) xs fs = fs
 failures_after v (SetTimeout m) xs fs = fs
-failures_after v (SetNargs m n) xs fs = fs
-failures_after v (SetArgument m n) xs fs = failures_with 1 (pattern_at (range m n) v) xs fs
+failures_after v (SetNargs s) xs fs = fs
+failures_after v (SetArgument s) xs fs = failures_with 1 (pattern_at (span_in s) v) xs fs
 failures_after v SetShell xs fs = fs

@@ -7,6 +7,7 @@ ghost use Rattle.options.specs.Read.{set_id};
 pub mod arguments; // which arguments fail an argument pattern
 pub mod ids; // user and group names in options
 pub mod line; // which options stand on a line
+pub mod parts; // the two parts of a text around a byte
 pub mod read; // one option from a field's text
 pub mod set; // the options that hold one setting, and one set of them laid over another
 pub mod setting; // what an option sets
@@ -14,7 +15,7 @@ pub mod span; // ranges of numbers
 pub mod timeout; // the value of a timeout
 
 // The options that name a user or a group.
-#[derive(Clone, Copy)]
+#[derive(Clone, Copy, PartialEq, Eq)]
 pub enum Id {
     Uid,
     Euid,
@@ -27,11 +28,6 @@ impl Id {
     fn number(self) -> usize
         ensures { result ≡ (set_id self []).which }
     {
-        match self {
-            Id::Uid => 0,
-            Id::Euid => 1,
-            Id::Gid => 2,
-            Id::Egid => 3,
-        }
+        self as usize
     }
 }

@@ -1,5 +1,5 @@
 // Which options stand on a line.
-ghost use Rattle.std.specs.Prelude.{ℕ, ◌≡◌, false, ◌||◌, List, [], get_or};
+ghost use Rattle.std.specs.Prelude.{ℕ, ◌≡◌, false, List, [], get_or};
 ghost use Rattle.options.specs.Contract.{setting_in, line_of, noted};
 
 use super::setting::OptionSetting;
@@ -11,12 +11,6 @@ pub struct LineOptions {
     twice: bool,
 }
 
-fn or(a: bool, b: bool) -> bool
-    ensures { result ≡ a || b }
-{
-    if a { true } else { b }
-}
-
 impl LineOptions {
     // How many options may not stand twice.
     pub const OPTIONS: usize = 8;
@@ -24,6 +18,7 @@ impl LineOptions {
     // The number of `patterns`.
     pub const PATTERNS: usize = 7;
 
+    #[tactic(auto, unfolding(crate::specs::Contract::line_of, crate::specs::Contract::standing, crate::specs::Read::twice))]
     pub fn new() -> Self
         ensures { result ≡ line_of [] }
     {
@@ -34,30 +29,24 @@ impl LineOptions {
     }
 
     // With one more option of the line.
+    #[tactic(auto, unfolding(crate::specs::Contract::noted))]
     pub fn add(self, setting: OptionSetting) -> Self
         ensures { (v : List ℕ) → result ≡ noted self (setting_in v setting) }
     {
-        let part = setting.part();
-        let number = part.0;
-        if number >= LineOptions::OPTIONS {
+        let Some(number) = setting.number() else {
             return self;
-        }
-        let twice = self.twice;
+        };
         let mut stands = self.stands;
-        let again = stands[number];
+        let twice = self.twice || stands[number];
         stands[number] = true;
-        LineOptions {
-            stands,
-            twice: or(twice, again),
-        }
+        LineOptions { stands, twice }
     }
 
     // Whether `patterns=shell` stands on the line.
     pub fn shell(self) -> bool
         ensures { result ≡ get_or self.stands 7 false }
     {
-        let stands = self.stands;
-        stands[LineOptions::PATTERNS]
+        self.stands[LineOptions::PATTERNS]
     }
 
     // Whether the same option stands twice, argument patterns excepted.

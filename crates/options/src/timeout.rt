@@ -1,23 +1,15 @@
 // The value of a timeout: minutes, which may be below zero.
+ghost use Rattle.text.specs.Number.{decimal_of};
 ghost use Rattle.std.specs.Prelude.{ℕ, ◌≤◌, ◌≡◌, cond, List, pos, neg_ℤ};
-ghost use Rattle.std.proofs.Math.Option.{some, or_else};
-ghost use Rattle.text.specs.Number.{number_of};
-ghost use Rattle.options.specs.Options.{timeout_or};
 ghost use Rattle.options.specs.Read.{most_below, minutes_of, timeout_of};
-ghost use Rattle.options.specs.Contract.{timeout_in, read_in};
+ghost use Rattle.options.specs.Contract.{set_in};
 
-use super::read::OptionRead;
 use super::setting::OptionSetting;
 use fault::Cause;
-use text::number::{Number, decimal};
-use text::slice::starts_with;
+use text::number::decimal;
 
-// Minutes, or no timeout.
-#[derive(Clone, Copy)]
-pub enum Timeout {
-    Unset,
-    Minutes(i32),
-}
+#[derive(Drop)]
+pub struct Timeout;
 
 impl Timeout {
     // The most minutes.
@@ -25,58 +17,33 @@ impl Timeout {
 
     // The most minutes below zero.
     pub const MOST_BELOW: u32 = 32768;
-
-    pub fn over(self, other: Timeout) -> Self
-        ensures { timeout_in result ≡ or_else (timeout_in self) (timeout_in other) }
-    {
-        match self {
-            Timeout::Unset => other,
-            Timeout::Minutes(m) => Timeout::Minutes(m),
-        }
-    }
-
-    // An unset timeout counts as 0.
-    pub fn or_default(self) -> i32
-        ensures { result ≡ timeout_or (timeout_in self) }
-    {
-        match self {
-            Timeout::Unset => 0,
-            Timeout::Minutes(m) => m,
-        }
-    }
 }
 
 fn signed(n: u32, below: bool) -> i32
     requires { n ≤ most_below }
     ensures { result ≡ cond below (neg_ℤ (pos n)) (pos n) }
 {
-    if below {
-        return 0 - (n as i32);
-    }
-    n as i32
+    if below { -(n as i32) } else { n as i32 }
 }
 
 // The digits of a timeout, from 0 to most.
-fn read_minutes(s: &[u8], most: u32, below: bool) -> OptionRead
+fn read_minutes(s: &[u8], most: u32, below: bool) -> Result<OptionSetting, Cause>
     requires { most ≤ most_below }
-    ensures { (v : List ℕ) → read_in v result ≡ some (minutes_of (λ n. cond below (neg_ℤ (pos n)) (pos n)) most (number_of s.now)) }
+    ensures { (v : List ℕ) → set_in v result ≡ minutes_of (λ n. cond below (neg_ℤ (pos n)) (pos n)) most (decimal_of s.now) }
 {
-    match decimal(s) {
-        Number::Malformed => OptionRead::Faulty(Cause::OptionValue),
-        Number::Value(n) => {
-            if n > most {
-                return OptionRead::Faulty(Cause::OptionValue);
-            }
-            OptionRead::Set(OptionSetting::SetTimeout(signed(n, below)))
-        }
+    let n = decimal(s).ok_or(Cause::OptionValue)?;
+    if n > most {
+        return Err(Cause::OptionValue);
     }
+    Ok(OptionSetting::SetTimeout(signed(n, below)))
 }
 
 // Digits, after an optional `-`.
-pub fn read_timeout(v: &[u8]) -> OptionRead
-    ensures { read_in v.now result ≡ some (timeout_of v.now) }
+#[tactic(auto, unfolding(crate::specs::Read::timeout_of))]
+pub fn read_timeout(v: &[u8]) -> Result<OptionSetting, Cause>
+    ensures { set_in v.now result ≡ timeout_of v.now }
 {
-    if starts_with(v, b"-") {
+    if v.starts_with(b"-") {
         return read_minutes(&v[1..], Timeout::MOST_BELOW, true);
     }
     read_minutes(v, Timeout::MOST, false)

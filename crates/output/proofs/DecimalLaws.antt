@@ -1,8 +1,8 @@
 -- The laws of numbers written in decimal digits. Assumes nothing.
+use Rattle.std.specs.Prelude.{None, Some}
 use mathlib.Core.Path.{◌≡◌, refl, ap, ◌∙◌}
 use mathlib.Core.Bool.{Bool, true, false, cond}
 use mathlib.Core.List.{List, [], ◌∷◌, ◌++◌}
-use mathlib.Core.Option.{none, some}
 use Prim.Native.Nat.{ℕ, zero, suc, ◌+◌, ◌-◌, ◌*◌, ◌/◌, ◌%◌, ◌≤◌, ◌<◌, ◌^◌}
 use native.Mathlib.Nat.{pow-suc}
 use native.Mathlib.Omega.{arith}
@@ -41,7 +41,7 @@ decimal_more n h =
     rw (le-ltb n 10 h, e)
 
 -- a digit behind digits that give w
-digits_behind : (v w d : ℕ) (s : List ℕ) → d < 10 → digits v s ≡ some w → digits v (s ++ digit_byte d ∷ []) ≡ some (w * 10 + d)
+digits_behind : (v w d : ℕ) (s : List ℕ) → d < 10 → digits v s ≡ Some w → digits v (s ++ digit_byte d ∷ []) ≡ Some (w * 10 + d)
 unfolding digits digit
 digits_behind v w d [] h e =
     let q : v ≡ w = cc in
@@ -49,19 +49,19 @@ digits_behind v w d [] h e =
     rw (le-leb 48 (48 + d) (omega arith), le-leb (48 + d) 57 (omega arith), z, q)
 digits_behind v w d (b ∷ s) h e = go (digit b) (λ x p. digits_behind x w d s h p) e
   where
-    go : (t : Bool) → ((x : ℕ) → digits x s ≡ some w → digits x (s ++ digit_byte d ∷ []) ≡ some (w * 10 + d)) → cond t (digits (v * 10 + (b - 48)) s) none ≡ some w → cond t (digits (v * 10 + (b - 48)) (s ++ digit_byte d ∷ [])) none ≡ some (w * 10 + d)
+    go : (t : Bool) → ((x : ℕ) → digits x s ≡ Some w → digits x (s ++ digit_byte d ∷ []) ≡ Some (w * 10 + d)) → cond t (digits (v * 10 + (b - 48)) s) None ≡ Some w → cond t (digits (v * 10 + (b - 48)) (s ++ digit_byte d ∷ [])) None ≡ Some (w * 10 + d)
     go true p e = p (v * 10 + (b - 48)) e
     go false p e = clash cc
 
-digits_start : digits 0 [] ≡ some 0
+digits_start : digits 0 [] ≡ Some 0
 unfolding digits
 digits_start = refl
 
-read_back : (f n : ℕ) → n < f → digits 0 (decimal n) ≡ some n
+read_back : (f n : ℕ) → n < f → digits 0 (decimal n) ≡ Some n
 read_back zero n h = absurd (omega arith)
 read_back (suc f) n h = go (ltb n 10) refl (λ m i. read_back f m i)
   where
-    go : (t : Bool) → ltb n 10 ≡ t → ((m : ℕ) → m < f → digits 0 (decimal m) ≡ some m) → digits 0 (decimal n) ≡ some n
+    go : (t : Bool) → ltb n 10 ≡ t → ((m : ℕ) → m < f → digits 0 (decimal m) ≡ Some m) → digits 0 (decimal n) ≡ Some n
     go true e p =
         let l = ltb-true n 10 e in
         let z : 0 * 10 + n ≡ n = omega arith in
@@ -72,7 +72,7 @@ read_back (suc f) n h = go (ltb n 10) refl (λ m i. read_back f m i)
         rw (decimal_more n l) (digits_behind 0 (n / 10) (n % 10) (decimal (n / 10)) (omega arith) (p (n / 10) (omega arith)) ∙ rw z)
 
 -- the digits of n, read as a number, are n
-pub decimal_read : (n : ℕ) → digits 0 (decimal n) ≡ some n
+pub decimal_read : (n : ℕ) → digits 0 (decimal n) ≡ Some n
 decimal_read n = read_back (suc n) n (omega arith)
 
 -- ---- how many digits a number has

@@ -4,34 +4,28 @@ ghost use Rattle.output.specs.Contract.{WroteAfter};
 ghost use Rattle.output.specs.Decimal.{decimal};
 
 use super::decimal::put_decimal;
-use text::buffer::{Filled, put, put_all};
+use text::buffer::{put, put_all};
 
 // One byte.
-pub fn then_byte(filled: Filled, b: u8, out: &mut [u8]) -> Filled
+#[tactic(auto, using(crate::proofs::BehindLaws::after_done, crate::proofs::BehindLaws::after_full))]
+pub fn then_byte(filled: Option<usize>, b: u8, out: &mut [u8]) -> Option<usize>
     ensures { WroteAfter filled out.old out.new (b ∷ []) result }
 {
-    match filled {
-        Filled::Full => Filled::Full,
-        Filled::Done(n) => put(out, n, b),
-    }
+    put(out, filled?, b)
 }
 
 // A slice.
-pub fn then_all(filled: Filled, s: &[u8], out: &mut [u8]) -> Filled
+#[tactic(auto, using(crate::proofs::BehindLaws::after_done, crate::proofs::BehindLaws::after_full))]
+pub fn then_all(filled: Option<usize>, s: &[u8], out: &mut [u8]) -> Option<usize>
     ensures { WroteAfter filled out.old out.new s.now result }
 {
-    match filled {
-        Filled::Full => Filled::Full,
-        Filled::Done(n) => put_all(out, n, s),
-    }
+    put_all(out, filled?, s)
 }
 
 // A number.
-pub fn then_decimal(filled: Filled, v: usize, out: &mut [u8]) -> Filled
+#[tactic(auto, using(crate::proofs::BehindLaws::after_done, crate::proofs::BehindLaws::after_full))]
+pub fn then_decimal(filled: Option<usize>, v: usize, out: &mut [u8]) -> Option<usize>
     ensures { WroteAfter filled out.old out.new (decimal v) result }
 {
-    match filled {
-        Filled::Full => Filled::Full,
-        Filled::Done(n) => put_decimal(out, n, v),
-    }
+    put_decimal(out, filled?, v)
 }

@@ -1,8 +1,8 @@
 -- What a reading takes of the bytes stands before what it leaves, and of pieces alone it is their only expansion. Assumes nothing.
+use Rattle.std.specs.Prelude.{None, Option, Some}
 use mathlib.Core.Path.{◌≡◌, refl, sym, ap, ◌∙◌}
 use mathlib.Core.Bool.{Bool, true, false, cond, ◌&&◌}
 use mathlib.Core.List.{List, [], ◌∷◌, ◌++◌, append_assoc}
-use mathlib.Core.Option.{Option, none, some}
 use Prim.Native.Nat.{ℕ, zero, suc, ◌+◌, ◌*◌}
 use lib.Dec.{eqb}
 use lib.ListN.{length}
@@ -18,12 +18,12 @@ use Rattle.pattern.specs.Contract.{only_pieces}
 
 -- ---- a piece and what follows it are the bytes
 abbrev Joins : List ℕ → Option FirstPiece → Type 0
-Joins s none = Unit {0}
-Joins s (some q) = s ≡ q.written ++ q.rest
+Joins s None = Unit {0}
+Joins s (Some q) = s ≡ q.written ++ q.rest
 
 abbrev JoinsParts : ℕ → List ℕ → Option Parts → Type 0
-JoinsParts c s none = Unit {0}
-JoinsParts c s (some q) = s ≡ q.front ++ c ∷ q.back
+JoinsParts c s None = Unit {0}
+JoinsParts c s (Some q) = s ≡ q.front ++ c ∷ q.back
 
 joins_parts : (c : ℕ) (s : List ℕ) → JoinsParts c s (part_at c s)
 unfolding part_at
@@ -32,12 +32,12 @@ joins_parts c (b ∷ s) = go (eqb b c) refl (part_at c s) refl (joins_parts c s)
   where
     go : (t : Bool) → eqb b c ≡ t → (o : Option Parts) → part_at c s ≡ o → JoinsParts c s o → JoinsParts c (b ∷ s) (part_at c (b ∷ s))
     go true t o q h = rw t (ap (λ (x : ℕ). x ∷ s) (eqb-true b c t))
-    go false t none q h = rw (t, q) tt
-    go false t (some x) q h = rw (t, q) (ap (◌∷◌ b) h)
+    go false t None q h = rw (t, q) tt
+    go false t (Some x) q h = rw (t, q) (ap (◌∷◌ b) h)
 
 joins_set : (s : List ℕ) (o : Option Parts) → JoinsParts 93 s o → Joins (91 ∷ s) (set_piece o)
-joins_set s none h = tt
-joins_set s (some q) h = pick_of (Joins (91 ∷ s)) (good_set negates q.front) (ap (◌∷◌ 91) (h ∙ sym (append_assoc q.front (93 ∷ []) q.back))) tt
+joins_set s None h = tt
+joins_set s (Some q) h = pick_of (Joins (91 ∷ s)) (good_set negates q.front) (ap (◌∷◌ 91) (h ∙ sym (append_assoc q.front (93 ∷ []) q.back))) tt
 
 joins_escape : (s : List ℕ) → Joins (92 ∷ s) (escape_piece s)
 joins_escape [] = tt
@@ -47,7 +47,7 @@ joins_piece : (syntax : Syntax) (c : ℕ) (s : List ℕ) → Joins (c ∷ s) (fi
 unfolding first_piece
 joins_piece syntax c s = go (has_sets syntax) (eqb c 92) refl (eqb c 91) refl
   where
-    go : (h e : Bool) → eqb c 92 ≡ e → (b : Bool) → eqb c 91 ≡ b → Joins (c ∷ s) (cond (h && e) (escape_piece s) (cond (h && b) (set_piece (part_at 93 s)) (some record { written = c ∷ []; rest = s })))
+    go : (h e : Bool) → eqb c 92 ≡ e → (b : Bool) → eqb c 91 ≡ b → Joins (c ∷ s) (cond (h && e) (escape_piece s) (cond (h && b) (set_piece (part_at 93 s)) (Some record { written = c ∷ []; rest = s })))
     go false e f b g = refl
     go true true f b g = rw (eqb-true c 92 f) (joins_escape s)
     go true false f true g = rw (eqb-true c 91 g) (joins_set s (part_at 93 s) (joins_parts 93 s))
@@ -79,8 +79,8 @@ module _ (rp rl : List ℕ → TreeRead) (hp : (t : List ℕ) → TakesFlat t (r
   takes_put s w r malformed e h = tt
 
   takes_at : (s : List ℕ) (o : Option FirstPiece) → Joins s o → TakesFlat s (at_piece rp o)
-  takes_at s none h = tt
-  takes_at s (some q) h = takes_put s q.written q.rest (rp q.rest) h (hp q.rest)
+  takes_at s None h = tt
+  takes_at s (Some q) h = takes_put s q.written q.rest (rp q.rest) h (hp q.rest)
 
   takes_byte : (m : Role) (syntax : Syntax) (c : ℕ) (s : List ℕ) → TakesFlat (c ∷ s) (at_byte rp rl m syntax c s)
   unfolding expansions

@@ -1,4 +1,5 @@
 -- The alternatives of the top level, one after the other as they stand. Assumes nothing.
+use Rattle.std.specs.Prelude.{None, Ok, Option, Some}
 use mathlib.Core.Path.{◌≡◌, refl, sym, ap, ◌∙◌}
 use mathlib.Core.Bool.{false}
 use mathlib.Core.List.{List, [], ◌++◌, append-nil}
@@ -8,14 +9,11 @@ use native.Mathlib.Decide.{dec_le}
 use borrow.Author.Tests.{ne_eqb}
 use lib.ListN.{length, drop, get_or, drop_of_length-le, length-drop}
 use Rattle.text.specs.Contract.{Wrote}
-use Rattle.text.specs.declared.buffer.Filled.{Filled}
-use Rattle.text.specs.declared.buffer.Filled.TheVariants.{Full}
 use Rattle.text.proofs.Laws.{next}
 use Rattle.text.proofs.Buffers.{up_full}
-use Rattle.fault.specs.Fault.{value}
 use Rattle.pattern.specs.declared.Syntax.{Syntax}
 use Rattle.pattern.specs.declared.alternatives.Alternative.{Alternative}
-use Rattle.pattern.specs.declared.alternatives.Alternative.TheVariants.{Flat, Braced, Malformed as AlternativeMalformed}
+use Rattle.pattern.specs.declared.alternatives.Alternative.TheVariants.{Flat, Braced}
 use Rattle.pattern.specs.Tree.{Tree, or, number, expansions, TreeRead, parsed, malformed, bind, after_one, pattern_of, list_of, expanded}
 use Rattle.pattern.specs.Whole.{expansions_of}
 use Rattle.pattern.specs.Contract.{chosen, HasNumber, expansions_in, EndsBefore, end_told, Few, AlternativeAt}
@@ -36,8 +34,8 @@ unfolding expansions_in
 numbers_are (parsed t r) n h = h ∙ counts t
 numbers_are malformed n h = absurd h
 
-pub never_full_at : (syntax : Syntax) (p : List ℕ) (at n k : ℕ) {old new : List ℕ} {r : Filled} → HasNumber (pattern_of syntax false (drop at p)) n → k < n
-    → Wrote old new 0 (get_or (expansions_in (pattern_of syntax false (drop at p))) k []) r → length p ≤ length old → r ≡ Full → ⊥
+pub never_full_at : (syntax : Syntax) (p : List ℕ) (at n k : ℕ) {old new : List ℕ} {r : Option ℕ} → HasNumber (pattern_of syntax false (drop at p)) n → k < n
+    → Wrote old new 0 (get_or (expansions_in (pattern_of syntax false (drop at p))) k []) r → length p ≤ length old → r ≡ None → ⊥
 unfolding expansions_in
 never_full_at syntax p at n k {old} {new} {r} h g w l e =
     let f = up_full (length old) (0 + length (get_or (expansions_in (pattern_of syntax false (drop at p))) k [])) (sym w.answer ∙ e) in
@@ -90,13 +88,12 @@ module _ (syntax : Syntax) (p : List ℕ) (at : ℕ) (few : Few (list_of syntax 
     firsts : Firsts
     firsts = elim (dec_le (length p) e) [ yes h ↦ ends h | no h ↦ goes_on (omega arith) ]
 
-  pub first_told : (a : Alternative) → AlternativeAt p at a (pattern_of syntax false (drop at p)) → First syntax p at (end_told a) (expansions_in (pattern_of syntax false (drop at p)))
+  pub first_told : (a : Alternative) → AlternativeAt p at (Some a) (pattern_of syntax false (drop at p)) → First syntax p at (end_told a) (expansions_in (pattern_of syntax false (drop at p)))
   unfolding expansions_in
   first_told (Flat e) w = rw w.0.is (firsts e w.0).1
   first_told (Braced e n) w = rw w.0.is (firsts e w.0).1
-  first_told AlternativeMalformed w = absurd (no_alternative w)
 
-  module _ (e n : ℕ) (w : AlternativeAt p at (Braced e n) (pattern_of syntax false (drop at p))) where
+  module _ (e n : ℕ) (w : AlternativeAt p at (Some (Braced e n)) (pattern_of syntax false (drop at p))) where
     pub braced_few : n ≤ 64
     braced_few = omega (arith, (firsts e w.0).0, w.1)
 
@@ -104,7 +101,7 @@ module _ (syntax : Syntax) (p : List ℕ) (at : ℕ) (few : Few (list_of syntax 
     braced_numbers = rw w.0.is (omega (arith, (firsts e w.0).0, w.1))
 
 -- ---- a whole pattern without a fault
-module _ (syntax : Syntax) (p : List ℕ) {es : List (List ℕ)} (e : expanded syntax p ≡ value es) where
+module _ (syntax : Syntax) (p : List ℕ) {es : List (List ℕ)} (e : expanded syntax p ≡ Ok es) where
   pub whole_few : Few (list_of syntax false (drop 0 p))
   whole_few = let g = good syntax p es e in rw g.is_list (fits_few g.tree g.fit)
 
@@ -112,5 +109,5 @@ module _ (syntax : Syntax) (p : List ℕ) {es : List (List ℕ)} (e : expanded s
   unfolding expansions_in
   whole_all = let g = good syntax p es e in rw g.is_list (sym g.all ∙ sym (expansions_are syntax p es e))
 
-  pub expanded_again : expanded syntax p ≡ value (expansions_of syntax p)
-  expanded_again = e ∙ ap value (sym (expansions_are syntax p es e))
+  pub expanded_again : expanded syntax p ≡ Ok (expansions_of syntax p)
+  expanded_again = e ∙ ap Ok (sym (expansions_are syntax p es e))

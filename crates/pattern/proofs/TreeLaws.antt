@@ -1,8 +1,8 @@
 -- Enough steps are enough: how many more there are does not matter. So the readers call each other without a count. Assumes nothing.
+use Rattle.std.specs.Prelude.{None, Option, Some}
 use mathlib.Core.Path.{◌≡◌, refl}
 use mathlib.Core.Bool.{Bool, true, false, ◌&&◌}
 use mathlib.Core.List.{List, [], ◌∷◌}
-use mathlib.Core.Option.{Option, none, some}
 use Prim.Native.Nat.{ℕ, zero, suc, ◌+◌, ◌*◌, ◌≤◌, ◌<◌}
 use native.Mathlib.Omega.{arith}
 use lib.Dec.{eqb}
@@ -17,12 +17,12 @@ use Rattle.pattern.specs.Tree.{Tree, empty, has_sets, role_of, FirstPiece, escap
 
 -- ---- a piece and the bytes behind it are no more than there were
 abbrev RoomParts : ℕ → Option Parts → Type 0
-RoomParts n none = Unit {0}
-RoomParts n (some q) = length q.front + suc (length q.back) ≤ n
+RoomParts n None = Unit {0}
+RoomParts n (Some q) = length q.front + suc (length q.back) ≤ n
 
 abbrev pub RoomPiece : ℕ → Option FirstPiece → Type 0
-RoomPiece n none = Unit {0}
-RoomPiece n (some c) = (0 < length c.written) × (length c.written + length c.rest ≤ n)
+RoomPiece n None = Unit {0}
+RoomPiece n (Some c) = (0 < length c.written) × (length c.written + length c.rest ≤ n)
 
 room_parts : (c : ℕ) (s : List ℕ) → RoomParts (length s) (part_at c s)
 unfolding part_at
@@ -31,12 +31,12 @@ room_parts c (b ∷ s) = go (eqb b c) refl (part_at c s) refl (room_parts c s)
   where
     go : (t : Bool) → eqb b c ≡ t → (o : Option Parts) → part_at c s ≡ o → RoomParts (length s) o → RoomParts (suc (length s)) (part_at c (b ∷ s))
     go true t o q h = rw t (omega arith)
-    go false t none q h = rw (t, q) tt
-    go false t (some x) q h = rw (t, q) (omega arith)
+    go false t None q h = rw (t, q) tt
+    go false t (Some x) q h = rw (t, q) (omega arith)
 
 room_set : (n : ℕ) (o : Option Parts) → RoomParts n o → RoomPiece (suc n) (set_piece o)
-room_set n none h = tt
-room_set n (some q) h = pick_of (RoomPiece (suc n)) (good_set negates q.front) (omega arith, omega (arith, length-append q.front (93 ∷ []))) tt
+room_set n None h = tt
+room_set n (Some q) h = pick_of (RoomPiece (suc n)) (good_set negates q.front) (omega arith, omega (arith, length-append q.front (93 ∷ []))) tt
 
 room_escape : (s : List ℕ) → RoomPiece (suc (length s)) (escape_piece s)
 room_escape [] = tt
@@ -54,15 +54,15 @@ Short n (parsed t r) = length r ≤ n
 Short n malformed = Unit {0}
 
 abbrev ShortPiece : ℕ → Option FirstPiece → Type 0
-ShortPiece n none = Unit {0}
-ShortPiece n (some c) = length c.rest ≤ n
+ShortPiece n None = Unit {0}
+ShortPiece n (Some c) = length c.rest ≤ n
 
 short_piece : (syntax : Syntax) (c : ℕ) (s : List ℕ) (n : ℕ) → length s ≤ n → ShortPiece n (first_piece syntax (c ∷ s))
 short_piece syntax c s n h = go (first_piece syntax (c ∷ s)) (room_piece syntax c s)
   where
     go : (o : Option FirstPiece) → RoomPiece (suc (length s)) o → ShortPiece n o
-    go none g = tt
-    go (some x) g = omega (arith, g.0, g.1)
+    go None g = tt
+    go (Some x) g = omega (arith, g.0, g.1)
 
 short_le : (m n : ℕ) (o : TreeRead) → m ≤ n → Short m o → Short n o
 short_le m n (parsed t r) h s = omega arith
@@ -74,8 +74,8 @@ short_bind m n malformed f s h = tt
 
 module _ (rp : List ℕ → TreeRead) (rl : List ℕ → TreeRead) (hp : (t : List ℕ) → Short (length t) (rp t)) (hl : (t : List ℕ) → Short (length t) (rl t)) where
   short_at : (n : ℕ) (o : Option FirstPiece) → ShortPiece n o → Short n (at_piece rp o)
-  short_at n none h = tt
-  short_at n (some c) h = short_bind _ _ (rp c.rest) _ (hp c.rest) (λ t r g. omega arith)
+  short_at n None h = tt
+  short_at n (Some c) h = short_bind _ _ (rp c.rest) _ (hp c.rest) (λ t r g. omega arith)
 
   short_byte : (m : Role) (syntax : Syntax) (c : ℕ) (s : List ℕ) → Short (suc (length s)) (at_byte rp rl m syntax c s)
   short_byte Opens syntax c s = short_bind _ _ (rl s) _ (hl s) (λ a r h. short_bind _ _ (rp r) _ (hp r) (λ t u g. omega arith))
@@ -114,8 +114,8 @@ module _ (rp rp' : List ℕ → TreeRead) (rl rl' : List ℕ → TreeRead) (n : 
     (hp : (t : List ℕ) → length t ≤ n → rp t ≡ rp' t) (hl : (t : List ℕ) → length t ≤ n → rl t ≡ rl' t)
     (shl : (t : List ℕ) → Short (length t) (rl t)) where
   same_at : (o : Option FirstPiece) → ShortPiece n o → at_piece rp o ≡ at_piece rp' o
-  same_at none h = refl
-  same_at (some c) h = rw (hp c.rest h)
+  same_at None h = refl
+  same_at (Some c) h = rw (hp c.rest h)
 
   same_byte : (m : Role) (syntax : Syntax) (c : ℕ) (s : List ℕ) → length s ≤ n → at_byte rp rl m syntax c s ≡ at_byte rp' rl' m syntax c s
   same_byte Opens syntax c s h = bind_same _ (rl s) _ _ _ (shl s) (hl s h) (λ a r g. rw (hp r (omega arith)))

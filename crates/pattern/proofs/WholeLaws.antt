@@ -1,25 +1,21 @@
 -- The laws of whole patterns, for the functions of this layer and for those above it. Assumes nothing.
+use Rattle.std.specs.Prelude.{Err, None, Ok, Option, Result, Some}
 use mathlib.Core.Path.{◌≡◌, refl, sym, ap, ◌∙◌}
 use mathlib.Core.Bool.{Bool, true, false, ◌&&◌}
 use mathlib.Core.List.{List, []}
-use mathlib.Core.Option.{Option, none, some}
 use Prim.Native.Nat.{ℕ, ◌+◌, ◌≤◌, ◌<◌, min}
 use native.Mathlib.Omega.{arith}
 use native.Mathlib.Decide.{dec_le, dec_lt}
 use borrow.Author.Tests.{lt-leb, leb-true}
 use lib.Dec.{leb}
 use lib.ListN.{length, drop, get_or, get_or-eq_default}
-use Rattle.text.specs.declared.buffer.Filled.{Filled}
-use Rattle.text.specs.declared.buffer.Filled.TheVariants.{Full}
 use Rattle.text.specs.Contract.{Wrote}
 use Rattle.text.proofs.Buffers.{up_full}
 use Rattle.text.proofs.Laws.{both_true, clash}
-use Rattle.fault.specs.Fault.{Reading, fault, value}
 use Rattle.fault.specs.declared.Cause.{Cause}
 use Rattle.fault.specs.declared.Cause.TheVariants.{Pattern as BadPattern, PatternSize}
 use Rattle.pattern.specs.declared.Syntax.{Syntax}
 use Rattle.pattern.specs.declared.Pattern.{Pattern}
-use Rattle.pattern.specs.declared.Shape.TheVariants.{Malformed, Read}
 use Rattle.pattern.specs.Tree.{Tree, commas_part, depth, number, expansions, fits, TreeRead, parsed, malformed, pattern_of, list_of, tree_of, expanded}
 use Rattle.pattern.specs.Whole.{or_none, expansions_of}
 use Rattle.pattern.specs.Contract.{size_of, shape_in, shape_of, expansion_at, chosen, HasNumber, HasNth}
@@ -34,16 +30,16 @@ unfolding fits
 fits_few t e = leb-true (number t) 64 (both_true (leb (depth t) 4) (leb (number t) 64) e).1
 
 module _ (syntax : Syntax) (p : List ℕ) where
-  pub expanded_none : tree_of syntax p ≡ none → expanded syntax p ≡ fault BadPattern
+  pub expanded_none : tree_of syntax p ≡ None → expanded syntax p ≡ Err BadPattern
   unfolding expanded
   expanded_none e = rw e
 
-  module _ (t : Tree) (e : tree_of syntax p ≡ some t) where
-    pub expanded_large : fits t ≡ false → expanded syntax p ≡ fault PatternSize
+  module _ (t : Tree) (e : tree_of syntax p ≡ Some t) where
+    pub expanded_large : fits t ≡ false → expanded syntax p ≡ Err PatternSize
     unfolding expanded
     expanded_large f = rw (e, f)
 
-    pub expanded_good : fits t ≡ true → expanded syntax p ≡ value (expansions t)
+    pub expanded_good : fits t ≡ true → expanded syntax p ≡ Ok (expansions t)
     unfolding expanded
     expanded_good f = rw (e, f)
 
@@ -55,19 +51,19 @@ pub record Good (syntax : Syntax) (p : List ℕ) (es : List (List ℕ)) : Type 0
   pub fit : fits tree ≡ true
   pub all : es ≡ expansions tree
 
-pub good : (syntax : Syntax) (p : List ℕ) (es : List (List ℕ)) → expanded syntax p ≡ value es → Good syntax p es
+pub good : (syntax : Syntax) (p : List ℕ) (es : List (List ℕ)) → expanded syntax p ≡ Ok es → Good syntax p es
 unfolding tree_of
 good syntax p es e = read (list_of syntax false p) refl
   where
     by : (t : Tree) (r : List ℕ) → list_of syntax false p ≡ parsed t r → (b : Bool) → fits t ≡ b → Good syntax p es
-    by t r q true f = let z : tree_of syntax p ≡ some t = rw q in let y = expanded_good syntax p t z f in record { tree = t; rest = r; is_list = q; fit = f; all = cc }
-    by t r q false f = let z : tree_of syntax p ≡ some t = rw q in let y = expanded_large syntax p t z f in clash cc
+    by t r q true f = let z : tree_of syntax p ≡ Some t = rw q in let y = expanded_good syntax p t z f in record { tree = t; rest = r; is_list = q; fit = f; all = cc }
+    by t r q false f = let z : tree_of syntax p ≡ Some t = rw q in let y = expanded_large syntax p t z f in clash cc
 
     read : (o : TreeRead) → list_of syntax false p ≡ o → Good syntax p es
     read (parsed t r) q = by t r q (fits t) refl
-    read malformed q = let z : tree_of syntax p ≡ none = rw q in let y = expanded_none syntax p z in clash cc
+    read malformed q = let z : tree_of syntax p ≡ None = rw q in let y = expanded_none syntax p z in clash cc
 
-module _ (syntax : Syntax) (p : List ℕ) (es : List (List ℕ)) (e : expanded syntax p ≡ value es) where
+module _ (syntax : Syntax) (p : List ℕ) (es : List (List ℕ)) (e : expanded syntax p ≡ Ok es) where
   pub expansions_are : expansions_of syntax p ≡ es
   unfolding expansions_of
   expansions_are = rw e
@@ -101,27 +97,27 @@ fits_told t = ap (◌&&◌ (leb (depth t) 4)) (few_told (number t))
 
 -- ---- what `read_pattern` tells of the expansions
 module _ (syntax : Syntax) (p : List ℕ) where
-  none_of : (o : Option Tree) → shape_in o ≡ Malformed → o ≡ none
-  none_of none e = refl
-  none_of (some t) e = cc
+  none_of : (o : Option Tree) → shape_in o ≡ None → o ≡ None
+  none_of None e = refl
+  none_of (Some t) e = cc
 
-  some_of : (o : Option Tree) (size : Pattern) → shape_in o ≡ Read size → (t : Tree) × (o ≡ some t) × (size ≡ size_of t)
-  some_of none size e = clash cc
-  some_of (some t) size e = (t, refl, cc)
+  some_of : (o : Option Tree) (size : Pattern) → shape_in o ≡ Some size → (t : Tree) × (o ≡ Some t) × (size ≡ size_of t)
+  some_of None size e = clash cc
+  some_of (Some t) size e = (t, refl, cc)
 
-  pub shape_malformed : shape_of syntax p ≡ Malformed → expanded syntax p ≡ fault BadPattern
+  pub shape_malformed : shape_of syntax p ≡ None → expanded syntax p ≡ Err BadPattern
   unfolding shape_of
   shape_malformed e = expanded_none syntax p (none_of (tree_of syntax p) e)
 
-  module _ (size : Pattern) (e : shape_of syntax p ≡ Read size) where
-    pub shape_large : leb size.depth 4 && leb size.number 64 ≡ false → expanded syntax p ≡ fault PatternSize
+  module _ (size : Pattern) (e : shape_of syntax p ≡ Some size) where
+    pub shape_large : leb size.depth 4 && leb size.number 64 ≡ false → expanded syntax p ≡ Err PatternSize
     unfolding shape_of
     shape_large f =
         let w = some_of (tree_of syntax p) size e in
         let g : fits w.0 ≡ false = sym (fits_told w.0) ∙ (rw w.2 at f) in
         expanded_large syntax p w.0 w.1 g
 
-    pub shape_good : leb size.depth 4 && leb size.number 64 ≡ true → (es : List (List ℕ)) × (expanded syntax p ≡ value es) × (size.number ≡ length es)
+    pub shape_good : leb size.depth 4 && leb size.number 64 ≡ true → (es : List (List ℕ)) × (expanded syntax p ≡ Ok es) × (size.number ≡ length es)
     unfolding shape_of size_of
     shape_good f =
         let w = some_of (tree_of syntax p) size e in
@@ -141,12 +137,12 @@ module _ (syntax : Syntax) (p : List ℕ) where
   unfolding expansion_at expansions_of
   expansion_short k = go (expanded syntax p) refl
     where
-      go : (r : Reading Cause (List (List ℕ))) → expanded syntax p ≡ r → length (get_or (or_none r) k []) ≤ length p
-      go (fault c) q = omega arith
-      go (value es) q = let g = good syntax p es q in rw g.all (one_short g.tree g.rest k g.is_list)
+      go : (r : Result (List (List ℕ)) Cause) → expanded syntax p ≡ r → length (get_or (or_none r) k []) ≤ length p
+      go (Err c) q = omega arith
+      go (Ok es) q = let g = good syntax p es q in rw g.all (one_short g.tree g.rest k g.is_list)
 
   -- so it fits where its pattern does
-  pub never_full : (k : ℕ) {old new : List ℕ} {r : Filled} → Wrote old new 0 (expansion_at syntax p k) r → length p ≤ length old → r ≡ Full → ⊥
+  pub never_full : (k : ℕ) {old new : List ℕ} {r : Option ℕ} → Wrote old new 0 (expansion_at syntax p k) r → length p ≤ length old → r ≡ None → ⊥
   never_full k {old} {new} {r} w h e =
       let f = up_full (length old) (0 + length (expansion_at syntax p k)) (sym w.answer ∙ e) in
       omega (arith, f, expansion_short k)
@@ -162,9 +158,9 @@ pub kth : (syntax : Syntax) (p : List ℕ) (number k : ℕ) → number ≡ lengt
 unfolding expansions_of
 kth syntax p n k e h = go (expanded syntax p) refl
   where
-    go : (r : Reading Cause (List (List ℕ))) → expanded syntax p ≡ r → Kth syntax p k
-    go (fault c) q = let z : length (expansions_of syntax p) ≡ 0 = rw q in absurd (omega arith)
-    go (value es) q =
+    go : (r : Result (List (List ℕ)) Cause) → expanded syntax p ≡ r → Kth syntax p k
+    go (Err c) q = let z : length (expansions_of syntax p) ≡ 0 = rw q in absurd (omega arith)
+    go (Ok es) q =
         let g = good syntax p es q in
         let a : expansions_of syntax p ≡ expansions g.tree = expansions_are syntax p es q ∙ g.all in
         let z : length (expansions_of syntax p) ≡ number g.tree = rw a (sym (counts g.tree)) in

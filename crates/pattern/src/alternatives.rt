@@ -4,20 +4,18 @@ ghost use Rattle.text.specs.Contract.{Wrote};
 ghost use Rattle.pattern.specs.Tree.{pattern_of};
 ghost use Rattle.pattern.specs.Contract.{HasNumber, expansions_in, end_told, alternative_from};
 
-use super::braces::{ListRead, pattern};
-use super::run::{RunRead, run_at};
+use super::braces::pattern;
+use super::run::{Run, run_at};
 use super::writer::put_pattern;
 use super::{Pattern, Syntax};
-use text::buffer::Filled;
 
-// What stands where an alternative begins.
+// A well-formed alternative.
 #[derive(Clone, Copy)]
 pub enum Alternative {
     // No brace up to this place, where it ends: it is its own only expansion.
     Flat(usize),
     // With braces: where it ends, and how many expansions it has, up to one past the limit.
     Braced(usize, usize),
-    Malformed,
 }
 
 impl Alternative {
@@ -26,27 +24,25 @@ impl Alternative {
         ensures { result ≡ end_told self }
     {
         match self {
-            Alternative::Flat(end) => end,
-            Alternative::Braced(end, _) => end,
-            Alternative::Malformed => 0,
+            Alternative::Flat(end) | Alternative::Braced(end, _) => end,
         }
     }
 }
 
-// The alternative that begins at `at`, a place of the pattern or its end; past the end there is none.
-pub fn alternative_at(syntax: Syntax, p: &[u8], at: usize) -> Alternative
+// The alternative that begins at `at`, a place of the pattern or its end; past the end there is none, nor where it is
+// malformed.
+pub fn alternative_at(syntax: Syntax, p: &[u8], at: usize) -> Option<Alternative>
     ensures { result ≡ alternative_from syntax p.now at }
 {
     if p.len() < at {
-        return Alternative::Malformed;
+        return None;
     }
-    match run_at(syntax, p, at, false) {
-        RunRead::Ends(end) => Alternative::Flat(end),
-        RunRead::Opens(_) => match pattern(syntax, p, at, false, Pattern::DEPTH) {
-            ListRead::Done(end, _, number) => Alternative::Braced(end, number),
-            ListRead::Malformed => Alternative::Malformed,
-        },
-        RunRead::Malformed => Alternative::Malformed,
+    match run_at(syntax, p, at, false)? {
+        Run::Ends(end) => Some(Alternative::Flat(end)),
+        Run::Opens(_) => {
+            let read = pattern(syntax, p, at, false, Pattern::DEPTH)?;
+            Some(Alternative::Braced(read.next, read.number))
+        }
     }
 }
 
@@ -58,7 +54,7 @@ pub fn put_alternative(
     number: usize,
     k: usize,
     out: &mut [u8],
-) -> Filled
+) -> Option<usize>
     requires { (at ≤ length p.now) × HasNumber (pattern_of syntax false (drop at p.now)) number × (number ≤ 64) × (k < number) }
     ensures { Wrote out.old out.new 0 (get_or (expansions_in (pattern_of syntax false (drop at p.now))) k []) result }
 {

@@ -4,7 +4,7 @@ ghost use Rattle.pattern.specs.Tree.{commas_part, role_of};
 
 use super::Syntax;
 
-#[derive(Drop)]
+#[derive(Clone, Copy)]
 pub enum Role {
     // A brace list begins.
     Opens,
@@ -20,33 +20,18 @@ pub enum Role {
 pub fn commas_part(syntax: Syntax) -> bool
     ensures { result ≡ commas_part syntax }
 {
-    match syntax {
-        Syntax::Plain => false,
-        Syntax::Condition => true,
-        Syntax::Time => true,
-    }
+    matches!(syntax, Syntax::Condition | Syntax::Time)
 }
 
+#[tactic(auto, unfolding(crate::specs::Tree::role_of))]
 pub fn role_of(syntax: Syntax, inside: bool, b: u8) -> Role
     ensures { result ≡ role_of syntax inside b }
 {
-    if b == b'{' {
-        return Role::Opens;
+    match b {
+        b'{' => Role::Opens,
+        b'}' if inside => Role::Stops,
+        b'}' => Role::Stray,
+        b',' if inside || commas_part(syntax) => Role::Stops,
+        _ => Role::Begins,
     }
-    if b == b'}' {
-        if inside {
-            return Role::Stops;
-        }
-        return Role::Stray;
-    }
-    if b == b',' {
-        if inside {
-            return Role::Stops;
-        }
-        if commas_part(syntax) {
-            return Role::Stops;
-        }
-        return Role::Begins;
-    }
-    Role::Begins
 }

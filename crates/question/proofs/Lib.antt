@@ -1,5 +1,4 @@
 pub mod ZeroEnded
 pub mod Forms
-pub mod Passwords
 pub mod Told
 pub mod HostLaws

@@ -1,6 +1,5 @@
 -- What the contracts of the functions say: a test of zero-ended strings, and whether there is a question.
-use Rattle.std.specs.Prelude.{ℕ, Bool, true, false, List, [], ◌∷◌, eqb}
-use Rattle.std.proofs.Math.Option.{Option, none, some}
+use Rattle.std.specs.Prelude.{ℕ, Bool, true, false, List, [], ◌∷◌, eqb, None, Option, Some}
 use Rattle.text.specs.Contract.{lead}
 use Rattle.text.specs.Lists.{with_byte}
 use Rattle.question.specs.Question.{Question, user_bytes, most_groups, most_arguments, good_name, good_argument}
@@ -9,8 +8,8 @@ use Rattle.question.specs.declared.form.Listed.TheVariants.{Groups, Arguments}
 
 -- a test of the strings; a list that has none fails it
 abbrev pub when_strings : (List (List ℕ) → Bool) → Option (List (List ℕ)) → Bool
-when_strings test none = false
-when_strings test (some ps) = test ps
+when_strings test None = false
+when_strings test (Some ps) = test ps
 
 -- how many strings a list may hold
 abbrev pub most_of : Listed → ℕ
@@ -24,8 +23,8 @@ good_of Arguments = good_argument
 
 -- whether there is a question
 abbrev pub is_question : Option Question → Bool
-is_question none = false
-is_question (some q) = true
+is_question None = false
+is_question (Some q) = true
 
 -- the strings of any list, bytes behind the last zero left out; where `strings_of` is something, the same strings
 unfoldable pub strings_in : List ℕ → List (List ℕ)

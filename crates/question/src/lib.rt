@@ -71,10 +71,3 @@ impl WeekMinute {
 // Minutes of age, below zero where the clock went back.
 #[derive(Clone, Copy)]
 pub struct Age(pub i32);
-
-// When the user last gave a password.
-#[derive(Clone, Copy)]
-pub enum LastAuthentication {
-    Never,
-    Minutes(Age),
-}

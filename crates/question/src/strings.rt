@@ -1,30 +1,32 @@
 // Zero-ended strings, one after the other in one slice. Nothing is copied.
-ghost use Rattle.std.specs.Prelude.{◌+◌, ◌≤◌, ◌≡◌, length, drop};
-ghost use Rattle.text.specs.Contract.{lead};
+ghost use Rattle.std.specs.Prelude.{◌≡◌, length};
+ghost use Rattle.std.specs.Iterator.{YieldsFirstRef, item_count};
 ghost use Rattle.question.specs.Contract.{strings_in};
 
-use text::slice::byte_from;
+use text::slice::find_byte;
 
-// Where the string that begins at from ends: at its zero, or at the list's end.
-pub fn string_end(list: &[u8], from: usize) -> usize
-    ensures { (result ≡ from + lead 0 (drop from list.now)) × (from ≤ result) × (from ≤ length list.now → result ≤ length list.now) }
-{
-    byte_from(list, from, 0)
+// The strings of a list, each without its zero; bytes behind the last zero are in none.
+#[derive(Clone, Copy)]
+pub struct Strings<'a>(pub &'a [u8]);
+
+impl<'a> Iterator for Strings<'a> {
+    type Item = &'a [u8];
+
+    ghost next_gives = { YieldsFirstRef (λ s. strings_in s.0.now) };
+
+    ghost remaining = { item_count (λ s. strings_in s.0.now) };
+
+    fn next(&mut self) -> Option<&'a [u8]> {
+        let list = self.0;
+        let end = find_byte(list, 0)?;
+        self.0 = &list[end + 1..];
+        Some(&list[..end])
+    }
 }
 
-// How many strings the list has.
+// How many strings the list has: each has one zero.
 pub fn string_count(list: &[u8]) -> usize
     ensures { result ≡ length (strings_in list.now) }
 {
-    let mut from = 0;
-    let mut n: usize = 0;
-    while from < list.len() {
-        let end = string_end(list, from);
-        if end == list.len() {
-            return n;
-        }
-        from = end + 1;
-        n += 1;
-    }
-    n
+    list.iter().filter(|b| **b == 0).count()
 }

@@ -1,19 +1,15 @@
 -- The fields of a scanned line from one of them on, and what was read of one.
+use Rattle.std.specs.Prelude.{Ok, Result}
 use mathlib.Core.Path.{◌≡◌}
 use mathlib.Core.List.{List, [], ◌∷◌}
 use Prim.Native.Nat.{ℕ, ◌+◌, ◌≤◌, ◌<◌, min}
 use native.Mathlib.Omega.{arith}
 use lib.ListN.{length, take, drop, get_or, drop_of_length-le}
 use Rattle.text.proofs.Laws.{next_of}
-use Rattle.fault.specs.Fault.{Reading, fault, value}
 use Rattle.fault.specs.declared.Cause.{Cause}
 use Rattle.line.specs.Contract.{fields_in}
 use Rattle.line.proofs.AccessLaws.{fields_count}
 use Rattle.variables.specs.Contract.{text_reading, length_told, checked_reading}
-use Rattle.variables.specs.declared.definition.Checked.{Checked}
-use Rattle.variables.specs.declared.field.FieldText.{FieldText}
-use Rattle.variables.specs.declared.definition.Checked.TheVariants.{Good, Fault as NotGood}
-use Rattle.variables.specs.declared.field.FieldText.TheVariants.{Text, Fault as NoText}
 
 -- m is the number of fields, as `at_most` tells it
 module _ (text ends : List ℕ) (count : ℕ) {m : ℕ} (e : m ≡ min count 64) (i : ℕ) where
@@ -26,20 +22,14 @@ module _ (text ends : List ℕ) (count : ℕ) {m : ℕ} (e : m ≡ min count 64)
   fields_next h g = let k : i < length (fields_in text ends count) = omega (arith, fields_count text ends count) in rw g (next_of [] (fields_in text ends count) i k)
 
 -- what an answer tells of a text in a buffer
-module _ (out : List ℕ) {r : FieldText} {o : Reading Cause (List ℕ)} (w : text_reading out r ≡ o) where
-  pub reading_fault : {c : Cause} → r ≡ NoText c → fault c ≡ o
-  reading_fault e = rw e at w
-
-  pub reading_text : {n : ℕ} → r ≡ Text n → value (take n out) ≡ o
+module _ (out : List ℕ) {r : (Result ℕ Cause)} {o : Result (List ℕ) Cause} (w : text_reading out r ≡ o) where
+  pub reading_text : {n : ℕ} → r ≡ Ok n → Ok (take n out) ≡ o
   reading_text e = rw e at w
 
-pub length_fits : {r : FieldText} {n m : ℕ} → length_told r ≤ m → r ≡ Text n → n ≤ m
+pub length_fits : {r : (Result ℕ Cause)} {n m : ℕ} → length_told r ≤ m → r ≡ Ok n → n ≤ m
 length_fits h e = rw e at h
 
 -- what a check tells
-module _ (t : List ℕ) {r : Checked} {o : Reading Cause (List ℕ)} (w : checked_reading r t ≡ o) where
-  pub checked_fault : {c : Cause} → r ≡ NotGood c → fault c ≡ o
-  checked_fault e = rw e at w
-
-  pub checked_good : r ≡ Good → value t ≡ o
+module _ (t : List ℕ) {r : (Result Unit Cause)} {o : Result (List ℕ) Cause} (w : checked_reading r t ≡ o) where
+  pub checked_good : r ≡ (Ok tt) → Ok t ≡ o
   checked_good e = rw e at w

@@ -1,17 +1,14 @@
 -- The ids that an entry sets have at most 64 bytes. Assumes nothing.
+use Rattle.std.specs.Prelude.{None, Option, Result, Some}
 use mathlib.Core.Bool.{false, not, ◌&&◌}
 use mathlib.Core.List.{List, [], ◌∷◌, ◌++◌}
-use mathlib.Core.Option.{Option, none, some}
 use Prim.Native.Nat.{ℕ, ◌+◌}
 use lib.ListN.{drop, take}
 use Rattle.text.specs.Lists.{null}
 use Rattle.text.specs.Slice.{find_pair}
-use Rattle.text.specs.declared.slice.Found.{Found}
-use Rattle.text.specs.declared.slice.Found.TheVariants.{At, Nothing}
 use Rattle.text.proofs.Laws.{pick_of}
 use Rattle.fault.specs.declared.Cause.{Cause}
 use Rattle.fault.specs.declared.Cause.TheVariants.{LatePair, MissingPart, OptionTwice}
-use Rattle.fault.specs.Fault.{Reading}
 use Rattle.fault.proofs.Readings.{Gives, gives_fault, gives_value, gives_then, gives_after, gives_require, Each}
 use Rattle.pattern.specs.declared.Syntax.TheVariants.{Plain}
 use Rattle.pattern.specs.Tree.{expanded}
@@ -39,9 +36,9 @@ short_pair : (t : List ℕ) → Gives ShortField (pair_of t)
 unfolding pair_of
 short_pair t = by (find_pair 58 58 0 t)
   where
-    by : (p : Found) → Gives ShortField (pair_at t p)
-    by Nothing = gives_fault ShortField LatePair
-    by (At i) = gives_after ShortField (expanded Plain (take i t)) (λ e. gives_after ShortField (full_path (drop (i + 2) t)) (λ p. gives_value ShortField tt))
+    by : (p : Option ℕ) → Gives ShortField (pair_at t p)
+    by None = gives_fault ShortField LatePair
+    by (Some i) = gives_after ShortField (expanded Plain (take i t)) (λ e. gives_after ShortField (full_path (drop (i + 2) t)) (λ p. gives_value ShortField tt))
 
 short_part : (k : Sort) (xs : List Judged) → ShortEntry (condition_part k xs)
 short_part user xs = tt
@@ -53,9 +50,9 @@ module _ (judge : Judge) where
   unfolding other_of
   short_other t = by (option_of false t) (short_option false t)
     where
-      by : (o : Option (Reading Cause Setting)) → Offers o → Gives ShortField (option_or judge t o)
-      by none h = gives_after ShortField (condition_of judge t) (λ c. gives_value ShortField (short_part c.sort c.alternatives))
-      by (some r) h = gives_then ShortSetting ShortField r h (λ s p. gives_require ShortField (not (has_pair t)) LatePair (λ e. gives_value ShortField (p, tt)))
+      by : (o : Option (Result Setting Cause)) → Offers o → Gives ShortField (option_or judge t o)
+      by None h = gives_after ShortField (condition_of judge t) (λ c. gives_value ShortField (short_part c.sort c.alternatives))
+      by (Some r) h = gives_then ShortSetting ShortField r h (λ s p. gives_require ShortField (not (has_pair t)) LatePair (λ e. gives_value ShortField (p, tt)))
 
   short_field : (p : Position) (t : List ℕ) → Gives ShortField (field_of judge p t)
   unfolding field_of command_of path_field no_field

@@ -1,14 +1,14 @@
 -- An id in force has at most 64 bytes, and a path that is granted at most 1,024. Assumes nothing.
+use Rattle.std.specs.Option.{option_map, option_or}
+use Rattle.std.specs.Prelude.{None, Ok, Option, Some}
 use mathlib.Core.Path.{◌≡◌, refl}
 use mathlib.Core.Bool.{Bool, true, false, not, cond}
 use mathlib.Core.List.{List}
-use mathlib.Core.Option.{Option, none, some, or_else, map}
 use Prim.Native.Nat.{ℕ, ◌≤◌}
 use borrow.Author.Tests.{ltb-false}
 use lib.Dec.{ltb}
 use lib.ListN.{length}
 use Rattle.text.proofs.Laws.{pick_of}
-use Rattle.fault.specs.Fault.{value}
 use Rattle.fault.proofs.Readings.{gives_all}
 use Rattle.line.specs.Line.{Line}
 use Rattle.question.specs.Question.{Question}
@@ -47,29 +47,28 @@ short_on q o ps path h =
     by false e = pick_of ShortVerdict (password_needed (auth_or o.auth) (timeout_or o.timeout) q.age) (ltb-false 1024 (length path) e, h) (ltb-false 1024 (length path) e, h)
 
 abbrev ShortOwn : Option Verdict → Type 0
-ShortOwn none = Unit {0}
-ShortOwn (some v) = ShortVerdict v
+ShortOwn None = Unit {0}
+ShortOwn (Some v) = ShortVerdict v
 
 short_verdict : (q : Question) (o : Options) (ps : List ArgumentPattern) (e : Entry) → ShortIds o → ShortEntry e → ShortOwn (verdict_of q o ps e)
 unfolding verdict_of
 short_verdict q o ps e h k = by (path_for q.command e.pairs)
   where
     by : (p : Option (List ℕ)) → ShortOwn (verdict_if q o ps e p)
-    by none = tt
-    by (some path) =
+    by None = tt
+    by (Some path) =
         pick_of ShortOwn (conditions_accept q.user e)
         (short_on q (over (options_of e.settings) o) (in_force ps (arguments_of e.settings)) path (short_over (options_of e.settings) o (short_options e.settings k) h))
         tt
 
 abbrev pub ShortDecision : Option Decision → Type 0
-ShortDecision none = Unit {0}
-ShortDecision (some d) = ShortVerdict d.verdict
+ShortDecision None = Unit {0}
+ShortDecision (Some d) = ShortVerdict d.verdict
 
-short_or : (line : ℕ) (o : Option Decision) (v : Option Verdict) → ShortDecision o → ShortOwn v → ShortDecision (or_else o (map (decided_at line) v))
-unfolding or_else
-short_or line none none h k = tt
-short_or line none (some v) h k = k
-short_or line (some d) v h k = h
+short_or : (line : ℕ) (o : Option Decision) (v : Option Verdict) → ShortDecision o → ShortOwn v → ShortDecision (option_or o (option_map (decided_at line) v))
+short_or line None None h k = tt
+short_or line None (Some v) h k = k
+short_or line (Some d) v h k = h
 
 pub record ShortState (s : State) : Type 0 where
   pub options : ShortIds s.options
@@ -77,9 +76,9 @@ pub record ShortState (s : State) : Type 0 where
 
 pub short_start : ShortState start
 unfolding start no_options
-short_start = record { options = short_none none none none; decision = tt }
+short_start = record { options = short_none None None None; decision = tt }
 
-pub short_keeps : (q : Question) (s t : State) (l : Line) → ShortState s → line_read q s l ≡ value t → ShortState t
+pub short_keeps : (q : Question) (s t : State) (l : Line) → ShortState s → line_read q s l ≡ Ok t → ShortState t
 unfolding with_definition with_settings with_entry
 short_keeps q s t l h e = by (line_change q s t l e)
   where

@@ -1,6 +1,6 @@
 -- What is kept from line to line: variables, options and argument patterns in force, whether `patterns=shell` was read, and the decision once made.
-use Rattle.std.specs.Prelude.{ℕ, Bool, false, ◌||◌, List, [], ◌++◌}
-use Rattle.std.proofs.Math.Option.{Option, none, or_else, map}
+use Rattle.std.specs.Option.{option_map, option_or}
+use Rattle.std.specs.Prelude.{ℕ, Bool, false, ◌||◌, List, [], ◌++◌, None, Option}
 use Rattle.question.specs.Question.{Question}
 use Rattle.variables.specs.Scope.{Scope, Definition, define}
 use Rattle.options.specs.Options.{Options, no_options, over}
@@ -28,7 +28,7 @@ pub record State : Type 0 where
 
 -- before the first line
 unfoldable pub start : State
-start = record { definitions = []; options = no_options; arguments = []; shell = false; decision = none }
+start = record { definitions = []; options = no_options; arguments = []; shell = false; decision = None }
 
 -- CALLER and HOST come from the question
 abbrev pub scope_of : Question → State → Scope
@@ -55,5 +55,5 @@ with_entry q line e s = record {
   options = s.options;
   arguments = s.arguments;
   shell = s.shell;
-  decision = or_else s.decision (map (decided_at line) (verdict_of q s.options s.arguments e));
+  decision = option_or s.decision (option_map (decided_at line) (verdict_of q s.options s.arguments e));
 }

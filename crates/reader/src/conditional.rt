@@ -1,46 +1,45 @@
 // `:if A == B rest` and `:if A != B rest`: whether the rest is taken.
 ghost use Rattle.std.specs.Prelude.{◌≡◌, drop};
-ghost use Rattle.fault.specs.Fault.{value as good};
 ghost use Rattle.line.specs.Contract.{fields_in};
 ghost use Rattle.variables.specs.Substitute.{field_as};
 ghost use Rattle.variables.specs.Contract.{scope_in};
 ghost use Rattle.reader.specs.Colon.{operator_of, operator_holds, behind_operator, behind_left, comparison};
-ghost use Rattle.reader.specs.Contract.{operator_in, compared_in};
 
 use fault::Cause;
 use line::fields::field;
-use line::scan::ScannedLine;
-use text::number::at_most;
-use text::slice::equal;
+use line::scan::ControlLine;
 use variables::Variables;
 use variables::field::{FieldText, field_text};
 
-#[derive(Drop)]
-pub enum Comparison {
-    Fault(Cause),
-    // The rest is not looked at further.
-    Passed,
-    Taken,
-}
-
-#[derive(Drop)]
+#[derive(Clone, Copy, PartialEq, Eq)]
 enum Operator {
-    Fault(Cause),
     Equal,
     NotEqual,
 }
 
+impl Operator {
+    // Whether two texts compare as wanted.
+    fn holds(self, a: &[u8], b: &[u8]) -> bool
+        ensures { result ≡ operator_holds self a.now b.now }
+    {
+        match self {
+            Operator::Equal => a == b,
+            Operator::NotEqual => a != b,
+        }
+    }
+}
+
 // The operator by its text.
-fn operator_in(text: &[u8]) -> Operator
-    ensures { operator_in result ≡ operator_of text.now }
+fn operator_in(text: &[u8]) -> Result<Operator, Cause>
+    ensures { result ≡ operator_of text.now }
 {
-    if equal(text, b"==") {
-        return Operator::Equal;
+    if text == b"==".as_slice() {
+        return Ok(Operator::Equal);
     }
-    if equal(text, b"!=") {
-        return Operator::NotEqual;
+    if text == b"!=".as_slice() {
+        return Ok(Operator::NotEqual);
     }
-    Operator::Fault(Cause::Operator)
+    Err(Cause::Operator)
 }
 
 // The operator that a field is.
@@ -51,40 +50,18 @@ fn operator_of<'a>(
     bytes: &'a [u8; Variables::BYTES],
     sizes: &'a [usize; Variables::SIZES],
     names: usize,
-) -> Operator
-    ensures { operator_in result ≡ field_as (scope_in user.now host.now bytes.now sizes.now names) operator_of written.now }
+) -> Result<Operator, Cause>
+    ensures { result ≡ field_as (scope_in user.now host.now bytes.now sizes.now names) operator_of written.now }
 {
     let mut scratch = [0u8; FieldText::BYTES];
-    match field_text(bytes, sizes, names, user, host, written, &mut scratch) {
-        FieldText::Fault(cause) => Operator::Fault(cause),
-        FieldText::Text(n) => operator_in(&scratch[..n]),
-    }
-}
-
-// Whether the rest is taken.
-fn taken_if(taken: bool) -> Comparison
-    ensures { compared_in result ≡ good taken }
-{
-    if taken {
-        return Comparison::Taken;
-    }
-    Comparison::Passed
-}
-
-// Whether two texts compare as wanted.
-fn compared(a: &[u8], b: &[u8], wanted: bool) -> Comparison
-    ensures { compared_in result ≡ good (operator_holds wanted a.now b.now) }
-{
-    if equal(a, b) {
-        return taken_if(wanted);
-    }
-    taken_if(!wanted)
+    let n = field_text(bytes, sizes, names, user, host, written, &mut scratch)?;
+    operator_in(&scratch[..n])
 }
 
 // The right side behind the operator, and that a rest stands behind it.
 fn compare_right<'a, 'b>(
     left: &[u8],
-    wanted: bool,
+    operator: Operator,
     text: &'a [u8],
     ends: &'a [usize; 64],
     count: usize,
@@ -94,33 +71,22 @@ fn compare_right<'a, 'b>(
     bytes: &'b [u8; Variables::BYTES],
     sizes: &'b [usize; Variables::SIZES],
     names: usize,
-) -> Comparison
-    ensures { compared_in result ≡ behind_operator
+) -> Result<bool, Cause>
+    ensures { result ≡ behind_operator
         (scope_in user.now host.now bytes.now sizes.now names)
-        left.now wanted (drop from (fields_in text.now ends.now count)) }
+        left.now operator (drop from (fields_in text.now ends.now count)) }
 {
-    let most = at_most(count, ScannedLine::FIELDS);
+    let most = count.min(ControlLine::FIELDS);
     if from >= most {
-        return Comparison::Fault(Cause::MissingPart);
+        return Err(Cause::MissingPart);
     }
+    let written = field(text, ends, count, from);
     let mut scratch = [0u8; FieldText::BYTES];
-    match field_text(
-        bytes,
-        sizes,
-        names,
-        user,
-        host,
-        field(text, ends, count, from),
-        &mut scratch,
-    ) {
-        FieldText::Fault(cause) => Comparison::Fault(cause),
-        FieldText::Text(n) => {
-            if from + 1 >= most {
-                return Comparison::Fault(Cause::MissingPart);
-            }
-            compared(left, &scratch[..n], wanted)
-        }
+    let n = field_text(bytes, sizes, names, user, host, written, &mut scratch)?;
+    if from + 1 >= most {
+        return Err(Cause::MissingPart);
     }
+    Ok(operator.holds(left, &scratch[..n]))
 }
 
 // The operator and the right side behind the left one.
@@ -135,50 +101,29 @@ fn compare_with<'a, 'b>(
     bytes: &'b [u8; Variables::BYTES],
     sizes: &'b [usize; Variables::SIZES],
     names: usize,
-) -> Comparison
-    ensures { compared_in result ≡ behind_left
+) -> Result<bool, Cause>
+    ensures { result ≡ behind_left
         (scope_in user.now host.now bytes.now sizes.now names)
         left.now (drop from (fields_in text.now ends.now count)) }
 {
-    if from >= at_most(count, ScannedLine::FIELDS) {
-        return Comparison::Fault(Cause::MissingPart);
+    if from >= count.min(ControlLine::FIELDS) {
+        return Err(Cause::MissingPart);
     }
-    match operator_of(
-        field(text, ends, count, from),
+    let written = field(text, ends, count, from);
+    let operator = operator_of(written, user, host, bytes, sizes, names)?;
+    compare_right(
+        left,
+        operator,
+        text,
+        ends,
+        count,
+        from + 1,
         user,
         host,
         bytes,
         sizes,
         names,
-    ) {
-        Operator::Fault(cause) => Comparison::Fault(cause),
-        Operator::Equal => compare_right(
-            left,
-            true,
-            text,
-            ends,
-            count,
-            from + 1,
-            user,
-            host,
-            bytes,
-            sizes,
-            names,
-        ),
-        Operator::NotEqual => compare_right(
-            left,
-            false,
-            text,
-            ends,
-            count,
-            from + 1,
-            user,
-            host,
-            bytes,
-            sizes,
-            names,
-        ),
-    }
+    )
 }
 
 // The comparison that the fields make from one of them on, and that a rest stands behind it.
@@ -192,38 +137,27 @@ pub fn compare<'a, 'b>(
     bytes: &'b [u8; Variables::BYTES],
     sizes: &'b [usize; Variables::SIZES],
     names: usize,
-) -> Comparison
-    ensures { compared_in result ≡ comparison
+) -> Result<bool, Cause>
+    ensures { result ≡ comparison
         (scope_in user.now host.now bytes.now sizes.now names)
         (drop from (fields_in text.now ends.now count)) }
 {
-    if from >= at_most(count, ScannedLine::FIELDS) {
-        return Comparison::Fault(Cause::MissingPart);
+    if from >= count.min(ControlLine::FIELDS) {
+        return Err(Cause::MissingPart);
     }
+    let written = field(text, ends, count, from);
     let mut scratch = [0u8; FieldText::BYTES];
-    match field_text(
+    let n = field_text(bytes, sizes, names, user, host, written, &mut scratch)?;
+    compare_with(
+        &scratch[..n],
+        text,
+        ends,
+        count,
+        from + 1,
+        user,
+        host,
         bytes,
         sizes,
         names,
-        user,
-        host,
-        field(text, ends, count, from),
-        &mut scratch,
-    ) {
-        FieldText::Fault(cause) => Comparison::Fault(cause),
-        FieldText::Text(n) => {
-            compare_with(
-                &scratch[..n],
-                text,
-                ends,
-                count,
-                from + 1,
-                user,
-                host,
-                bytes,
-                sizes,
-                names,
-            )
-        }
-    }
+    )
 }

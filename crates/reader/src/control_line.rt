@@ -3,7 +3,7 @@ ghost use Rattle.line.specs.Contract.{fields_in};
 ghost use Rattle.variables.specs.Contract.{definitions_in};
 ghost use Rattle.reader.specs.Contract.{LineActs};
 
-use super::conditional::{Comparison, compare};
+use super::conditional::compare;
 use super::word::{ColonWord, colon_word};
 use fault::Cause;
 use line::fields::field;
@@ -11,9 +11,8 @@ use line::kind::{LineKind, kind_of};
 use variables::Variables;
 
 // What is left to do with the fields from one of them on.
-#[derive(Drop)]
+#[derive(Clone, Copy, PartialEq, Eq)]
 pub enum Action {
-    Fault(Cause),
     Nothing,
     Define(usize),
     Global(usize),
@@ -34,38 +33,32 @@ pub fn control_line<'a, 'b>(
     bytes: &'b [u8; Variables::BYTES],
     sizes: &'b [usize; Variables::SIZES],
     names: usize,
-) -> Action
+) -> Result<Action, Cause>
     ensures { LineActs
         (fields_in text.now ends.now count) from depth shell
         user.now host.now (definitions_in bytes.now sizes.now names) result }
 {
     match kind_of(text, ends, count, from) {
-        LineKind::NoField => Action::Nothing,
+        LineKind::NoField => Ok(Action::Nothing),
         LineKind::Entry => {
-            if shell {
-                return Action::Entry(from);
+            if !shell {
+                return Err(Cause::EntryTooEarly);
             }
-            Action::Fault(Cause::EntryTooEarly)
+            Ok(Action::Entry(from))
         }
-        LineKind::Colon => match colon_word(
-            field(text, ends, count, from),
-            user,
-            host,
-            bytes,
-            sizes,
-            names,
-        ) {
-            ColonWord::Fault(cause) => Action::Fault(cause),
-            ColonWord::Define => Action::Define(from + 1),
-            ColonWord::Global => Action::Global(from + 1),
-            ColonWord::If => {
-                if depth == 0 {
-                    return Action::Fault(Cause::IfDepth);
-                }
-                match compare(text, ends, count, from + 1, user, host, bytes, sizes, names) {
-                    Comparison::Fault(cause) => Action::Fault(cause),
-                    Comparison::Passed => Action::Nothing,
-                    Comparison::Taken => control_line(
+        LineKind::Colon => {
+            let word = field(text, ends, count, from);
+            match colon_word(word, user, host, bytes, sizes, names)? {
+                ColonWord::Define => Ok(Action::Define(from + 1)),
+                ColonWord::Global => Ok(Action::Global(from + 1)),
+                ColonWord::If => {
+                    if depth == 0 {
+                        return Err(Cause::IfDepth);
+                    }
+                    if !compare(text, ends, count, from + 1, user, host, bytes, sizes, names)? {
+                        return Ok(Action::Nothing);
+                    }
+                    control_line(
                         text,
                         ends,
                         count,
@@ -77,9 +70,9 @@ pub fn control_line<'a, 'b>(
                         bytes,
                         sizes,
                         names,
-                    ),
+                    )
                 }
             }
-        },
+        }
     }
 }

@@ -1,6 +1,5 @@
 // The name and the text of a `:define`, and where it goes.
 ghost use Rattle.std.specs.Prelude.{◌≡◌, drop};
-ghost use Rattle.fault.specs.Fault.{fault};
 ghost use Rattle.line.specs.Contract.{fields_in};
 ghost use Rattle.variables.specs.Contract.{scope_in};
 ghost use Rattle.reader.specs.Colon.{surplus_field};
@@ -8,24 +7,25 @@ ghost use Rattle.reader.specs.Contract.{ReadsText, ReadsDefinition, LineDefines}
 
 use fault::Cause;
 use line::fields::field;
-use line::scan::ScannedLine;
-use text::number::at_most;
-use variables::definition::{Checked, check_name, check_text};
+use line::scan::ControlLine;
+use variables::definition::{check_name, check_text};
 use variables::field::{FieldText, field_text};
-use variables::{DefinePlace, Variables, place_for};
+use variables::{Variables, place_for};
 
 // How many bytes name and text have, each in its buffer.
-#[derive(Drop)]
-enum DefinitionRead {
-    Fault(Cause),
-    Good(usize, usize),
+#[derive(Clone, Copy)]
+struct Sizes {
+    name: usize,
+    text: usize,
 }
 
 // What a `:define` does: its place, how many names there are then, and how many bytes name and text have, each in its buffer.
-#[derive(Drop)]
-pub enum DefineRead {
-    Fault(Cause),
-    At(usize, usize, usize, usize),
+#[derive(Clone, Copy)]
+pub struct Definition {
+    pub place: usize,
+    pub names: usize,
+    pub name: usize,
+    pub text: usize,
 }
 
 // The fault of a field behind the text: its own, or that it stands there.
@@ -37,12 +37,12 @@ fn surplus<'a>(
     sizes: &'a [usize; Variables::SIZES],
     names: usize,
 ) -> Cause
-    ensures { surplus_field (scope_in user.now host.now bytes.now sizes.now names) written.now ≡ fault result }
+    ensures { surplus_field (scope_in user.now host.now bytes.now sizes.now names) written.now ≡ Err result }
 {
     let mut scratch = [0u8; FieldText::BYTES];
     match field_text(bytes, sizes, names, user, host, written, &mut scratch) {
-        FieldText::Fault(cause) => cause,
-        FieldText::Text(_) => Cause::SurplusField,
+        Err(cause) => cause,
+        Ok(_) => Cause::SurplusField,
     }
 }
 
@@ -58,44 +58,24 @@ fn read_text<'a, 'b>(
     sizes: &'b [usize; Variables::SIZES],
     names: usize,
     value: &mut [u8; FieldText::BYTES],
-) -> FieldText
+) -> Result<usize, Cause>
     ensures { ReadsText
         (scope_in user.now host.now bytes.now sizes.now names)
         (drop from (fields_in text.now ends.now count))
         value.new result }
 {
-    let most = at_most(count, ScannedLine::FIELDS);
+    let most = count.min(ControlLine::FIELDS);
     if from >= most {
-        return FieldText::Fault(Cause::MissingPart);
+        return Err(Cause::MissingPart);
     }
-    match field_text(
-        bytes,
-        sizes,
-        names,
-        user,
-        host,
-        field(text, ends, count, from),
-        value,
-    ) {
-        FieldText::Fault(cause) => FieldText::Fault(cause),
-        FieldText::Text(n) => {
-            let all = &value[..];
-            if let Checked::Fault(cause) = check_text(&all[..n]) {
-                return FieldText::Fault(cause);
-            }
-            if from + 1 < most {
-                return FieldText::Fault(surplus(
-                    field(text, ends, count, from + 1),
-                    user,
-                    host,
-                    bytes,
-                    sizes,
-                    names,
-                ));
-            }
-            FieldText::Text(n)
-        }
+    let written = field(text, ends, count, from);
+    let n = field_text(bytes, sizes, names, user, host, written, value)?;
+    check_text(&value[..n])?;
+    if from + 1 < most {
+        let next = field(text, ends, count, from + 1);
+        return Err(surplus(next, user, host, bytes, sizes, names));
     }
+    Ok(n)
 }
 
 // The definition that the fields make from one of them on: its name and its text, at the beginnings of the lent buffers.
@@ -111,47 +91,31 @@ fn read_definition<'a, 'b>(
     names: usize,
     name: &mut [u8; FieldText::BYTES],
     value: &mut [u8; FieldText::BYTES],
-) -> DefinitionRead
+) -> Result<Sizes, Cause>
     ensures { ReadsDefinition
         (scope_in user.now host.now bytes.now sizes.now names)
         (drop from (fields_in text.now ends.now count))
         name.new value.new result }
 {
-    if from >= at_most(count, ScannedLine::FIELDS) {
-        return DefinitionRead::Fault(Cause::MissingPart);
+    if from >= count.min(ControlLine::FIELDS) {
+        return Err(Cause::MissingPart);
     }
-    match field_text(
+    let written = field(text, ends, count, from);
+    let k = field_text(bytes, sizes, names, user, host, written, name)?;
+    check_name(&name[..k])?;
+    let n = read_text(
+        text,
+        ends,
+        count,
+        from + 1,
+        user,
+        host,
         bytes,
         sizes,
         names,
-        user,
-        host,
-        field(text, ends, count, from),
-        name,
-    ) {
-        FieldText::Fault(cause) => DefinitionRead::Fault(cause),
-        FieldText::Text(n) => {
-            let all = &name[..];
-            if let Checked::Fault(cause) = check_name(&all[..n]) {
-                return DefinitionRead::Fault(cause);
-            }
-            match read_text(
-                text,
-                ends,
-                count,
-                from + 1,
-                user,
-                host,
-                bytes,
-                sizes,
-                names,
-                value,
-            ) {
-                FieldText::Fault(cause) => DefinitionRead::Fault(cause),
-                FieldText::Text(m) => DefinitionRead::Good(n, m),
-            }
-        }
-    }
+        value,
+    )?;
+    Ok(Sizes { name: k, text: n })
 }
 
 // What the `:define` does that the fields make from one of them on; its name and its text at the beginnings of the lent
@@ -168,22 +132,20 @@ pub fn read_define<'a, 'b>(
     names: usize,
     name: &mut [u8; FieldText::BYTES],
     value: &mut [u8; FieldText::BYTES],
-) -> DefineRead
+) -> Result<Definition, Cause>
     ensures { LineDefines
         user.now host.now bytes.now sizes.now names
         (drop from (fields_in text.now ends.now count))
         name.new value.new result }
 {
-    match read_definition(
+    let read = read_definition(
         text, ends, count, from, user, host, bytes, sizes, names, name, value,
-    ) {
-        DefinitionRead::Fault(cause) => DefineRead::Fault(cause),
-        DefinitionRead::Good(k, n) => {
-            let all = &name[..];
-            match place_for(bytes, sizes, names, &all[..k]) {
-                DefinePlace::Fault(cause) => DefineRead::Fault(cause),
-                DefinePlace::At(place, total) => DefineRead::At(place, total, k, n),
-            }
-        }
-    }
+    )?;
+    let goes = place_for(bytes, sizes, names, &name[..read.name])?;
+    Ok(Definition {
+        place: goes.place,
+        names: goes.names,
+        name: read.name,
+        text: read.text,
+    })
 }

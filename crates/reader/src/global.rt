@@ -9,21 +9,13 @@ ghost use Rattle.reader.specs.Contract.{Sums, AddsText, ReadsSettings};
 
 use fault::Cause;
 use line::fields::field;
-use line::scan::ScannedLine;
+use line::scan::ControlLine;
 use options::arguments::Failures;
 use options::line::LineOptions;
-use options::read::{OptionRead, read_option, value_of};
+use options::read::{read_option, value_of};
 use options::set::OptionSet;
-use text::number::at_most;
 use variables::Variables;
 use variables::field::{FieldText, field_text};
-
-// What comes of the fields so far.
-#[derive(Clone, Copy)]
-pub enum GlobalOutcome {
-    Good,
-    Fault(Cause),
-}
 
 // The options of the line, which arguments fail the patterns in force or those of the line, and which options stand on it.
 #[derive(Drop)]
@@ -31,7 +23,6 @@ pub struct GlobalRead {
     pub options: OptionSet,
     pub failures: Failures,
     pub line: LineOptions,
-    pub outcome: GlobalOutcome,
 }
 
 impl GlobalRead {
@@ -42,44 +33,20 @@ impl GlobalRead {
             options: OptionSet::new(),
             failures,
             line: LineOptions::new(),
-            outcome: GlobalOutcome::Good,
-        }
-    }
-
-    fn with_fault(self, cause: Cause) -> Self
-        ensures { result.outcome ≡ GlobalOutcome.Fault cause }
-    {
-        let options = self.options;
-        let failures = self.failures;
-        let line = self.line;
-        GlobalRead {
-            options,
-            failures,
-            line,
-            outcome: GlobalOutcome::Fault(cause),
         }
     }
 
     // With one more field, by its text.
-    fn add(self, text: &[u8], args: &[u8]) -> Self
+    fn add(self, text: &[u8], args: &[u8]) -> Result<GlobalRead, Cause>
         ensures { AddsText text.now (strings_in args.now) self result }
     {
-        match read_option(text, true) {
-            OptionRead::NotOption => self.with_fault(Cause::OptionName),
-            OptionRead::Faulty(cause) => self.with_fault(cause),
-            OptionRead::Set(setting) => {
-                let options = self.options;
-                let failures = self.failures;
-                let line = self.line;
-                let value = value_of(text);
-                GlobalRead {
-                    options: options.add(value, setting),
-                    failures: failures.add(value, setting, args),
-                    line: line.add(setting),
-                    outcome: GlobalOutcome::Good,
-                }
-            }
-        }
+        let setting = read_option(text, true)?.ok_or(Cause::OptionName)?;
+        let value = value_of(text);
+        Ok(GlobalRead {
+            options: self.options.add(value, setting),
+            failures: self.failures.add(value, setting, args),
+            line: self.line.add(setting),
+        })
     }
 }
 
@@ -96,45 +63,25 @@ pub fn read_global<'a, 'b>(
     bytes: &'b [u8; Variables::BYTES],
     sizes: &'b [usize; Variables::SIZES],
     names: usize,
-) -> GlobalRead
+) -> Result<GlobalRead, Cause>
     ensures { ReadsSettings
         (scope_in user.now host.now bytes.now sizes.now names)
         (drop from (fields_in text.now ends.now count))
         (strings_in args.now) failures result }
 {
-    let most = at_most(count, ScannedLine::FIELDS);
-    let mut read = GlobalRead::new(failures);
+    let most = count.min(ControlLine::FIELDS);
     if from >= most {
-        return read.with_fault(Cause::MissingPart);
+        return Err(Cause::MissingPart);
     }
+    let mut read = GlobalRead::new(failures);
     let mut scratch = [0u8; FieldText::BYTES];
-    let mut i = from;
-    while i < most {
-        match field_text(
-            bytes,
-            sizes,
-            names,
-            user,
-            host,
-            field(text, ends, count, i),
-            &mut scratch,
-        ) {
-            FieldText::Fault(cause) => {
-                return read.with_fault(cause);
-            }
-            FieldText::Text(n) => {
-                read = read.add(&scratch[..n], args);
-            }
-        }
-        let outcome = read.outcome;
-        if let GlobalOutcome::Fault(_) = outcome {
-            return read;
-        }
-        i += 1;
+    for i in from..most {
+        let written = field(text, ends, count, i);
+        let n = field_text(bytes, sizes, names, user, host, written, &mut scratch)?;
+        read = read.add(&scratch[..n], args)?;
     }
-    let line = read.line;
-    if line.twice() {
-        return read.with_fault(Cause::OptionTwice);
+    if read.line.twice() {
+        return Err(Cause::OptionTwice);
     }
-    read
+    Ok(read)
 }

@@ -1,12 +1,12 @@
-// The state between two lines but for the variables, by value: a method takes the old one and hands back the new one.
-ghost use Rattle.std.specs.Prelude.{ℕ, ◌≡◌, ◌||◌, List, drop};
+// The state between two lines but for the variables.
+ghost use Rattle.std.specs.Prelude.{ℕ, List, drop};
 ghost use Rattle.line.specs.Contract.{fields_in};
 ghost use Rattle.question.specs.Contract.{strings_in};
 ghost use Rattle.variables.specs.Contract.{definitions_in};
 ghost use Rattle.reader.specs.State.{start};
 ghost use Rattle.reader.specs.Contract.{Keeps, GlobalChanges};
 
-use super::global::{GlobalOutcome, read_global};
+use super::global::read_global;
 use fault::Cause;
 use options::arguments::Failures;
 use options::set::OptionSet;
@@ -18,25 +18,6 @@ pub struct Reader {
     pub options: OptionSet,
     pub failures: Failures,
     pub shell: bool,
-}
-
-// What comes of a line; a line with a fault leaves the state as it was.
-#[derive(Drop)]
-pub enum LineOutcome {
-    Good,
-    Fault(Cause),
-}
-
-#[derive(Drop)]
-pub struct Changed {
-    pub reader: Reader,
-    pub outcome: LineOutcome,
-}
-
-fn either(a: bool, b: bool) -> bool
-    ensures { result ≡ a || b }
-{
-    if a { true } else { b }
 }
 
 impl Reader {
@@ -54,9 +35,9 @@ impl Reader {
         }
     }
 
-    // After the `:global` that the fields make from one of them on; in force from the next line.
+    // After the `:global` that the fields make from one of them on; in force from the next line. A faulty one changes nothing.
     pub fn global<'a, 'b>(
-        self,
+        &mut self,
         text: &'a [u8],
         ends: &'a [usize; 64],
         count: usize,
@@ -67,36 +48,27 @@ impl Reader {
         bytes: &'b [u8; Variables::BYTES],
         sizes: &'b [usize; Variables::SIZES],
         names: usize,
-    ) -> Changed
+    ) -> Result<(), Cause>
         ensures { GlobalChanges
             user.now host.now (definitions_in bytes.now sizes.now names)
-            (strings_in args.now) (drop from (fields_in text.now ends.now count)) self result }
+            (strings_in args.now) (drop from (fields_in text.now ends.now count)) self.old self.new result }
     {
-        let failures = self.failures;
         let read = read_global(
-            failures, text, ends, count, from, user, host, args, bytes, sizes, names,
-        );
-        let outcome = read.outcome;
-        match outcome {
-            GlobalOutcome::Fault(cause) => Changed {
-                reader: self,
-                outcome: LineOutcome::Fault(cause),
-            },
-            GlobalOutcome::Good => {
-                let settings = read.options;
-                let options = self.options;
-                let failing = read.failures;
-                let line = read.line;
-                let shell = self.shell;
-                Changed {
-                    reader: Reader {
-                        options: settings.over(options),
-                        failures: failing,
-                        shell: either(shell, line.shell()),
-                    },
-                    outcome: LineOutcome::Good,
-                }
-            }
-        }
+            self.failures,
+            text,
+            ends,
+            count,
+            from,
+            user,
+            host,
+            args,
+            bytes,
+            sizes,
+            names,
+        )?;
+        self.options = read.options.over(self.options);
+        self.failures = read.failures;
+        self.shell = self.shell || read.line.shell();
+        Ok(())
     }
 }

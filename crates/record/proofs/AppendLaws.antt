@@ -1,24 +1,24 @@
 -- What is written into lent bytes is the record that a log gets, or nothing. Assumes nothing.
+use Rattle.std.specs.Prelude.{Err, Ok, Result}
 use mathlib.Core.Path.{◌≡◌, refl, sym, ◌∙◌}
 use mathlib.Core.Bool.{Bool, true, false, cond}
 use mathlib.Core.List.{List, [], ◌++◌, append-nil}
 use Prim.Native.Nat.{ℕ, ◌+◌, ◌≤◌}
 use native.Mathlib.Omega.{arith}
-use borrow.Author.Tests.{eqb-true, eq-eqb, ne_eqb}
+use borrow.Author.Tests.{eqb-true}
 use lib.Dec.{eqb, ltb}
 use lib.ListN.{length, take, drop, drop_of_length-le}
 use Rattle.text.specs.Buffer.{laid}
 use Rattle.text.proofs.Buffers.{laid_is}
 use Rattle.question.specs.Question.{week_minutes}
 use Rattle.record.specs.declared.Fields.{Fields}
-use Rattle.record.specs.declared.Written.{Written}
-use Rattle.record.specs.declared.Written.TheVariants.{Done, UnknownNumber, BadMinute, WrongLength}
-use Rattle.record.specs.declared.Recorded.{Recorded}
-use Rattle.record.specs.declared.Recorded.TheVariants.{Writer, LongLine}
+use Rattle.record.specs.declared.RecordFault.TheVariants.{UnknownNumber, BadMinute, WrongLength}
+use Rattle.record.specs.declared.Unrecorded.{Unrecorded}
+use Rattle.record.specs.declared.Unrecorded.TheVariants.{LongLine}
 use Rattle.record.specs.Layout.{record_length, packed}
 use Rattle.record.specs.Stored.{known, stored_of}
-use Rattle.record.specs.Write.{written_of, bytes_after, written_number}
-use Rattle.record.specs.Decision.{line_limit, recorded_of, bytes_recorded, record_bytes, recorded_number}
+use Rattle.record.specs.Write.{written_of}
+use Rattle.record.specs.Decision.{line_limit, by_writer, recorded_of, bytes_recorded, record_bytes}
 use Rattle.record.specs.Contract.{record_within, bytes_written}
 use Rattle.record.proofs.RoundTrip.{packed_length}
 
@@ -30,12 +30,12 @@ laid_over old xs e =
     laid_is old 0 xs (omega arith) ∙ r
 
 -- the answer by its tests: the line fits, there are eight bytes, the number is known, the minute is good
-abbrev answered : (line eight number minute : Bool) → Recorded
-answered line eight number minute = cond line (Writer (cond eight (cond number (cond minute Done BadMinute) UnknownNumber) WrongLength)) LongLine
+abbrev answered : (line eight number minute : Bool) → Result Unit Unrecorded
+answered line eight number minute = cond line (by_writer (cond eight (cond number (cond minute (Ok tt) (Err BadMinute)) (Err UnknownNumber)) (Err WrongLength))) (Err LongLine)
 
 module _ (f : Fields) (old : List ℕ) where
   placed : (line eight number minute : Bool) → (eight ≡ true → length old ≡ record_length) → bytes_recorded (answered line eight number minute) old f ≡ laid old 0 (cond eight (bytes_recorded (answered line true number minute) [] f) [])
-  unfolding bytes_recorded bytes_after laid
+  unfolding bytes_recorded laid
   placed true true true true e = sym (laid_over old (packed (stored_of f)) (packed_length (stored_of f) ∙ sym (e refl)))
   placed true true true false e = refl
   placed true true false m e = refl
@@ -44,7 +44,7 @@ module _ (f : Fields) (old : List ℕ) where
   placed false false n m e = refl
 
   counted : (line eight number minute : Bool) → bytes_written (answered line eight number minute) ≡ length (cond eight (bytes_recorded (answered line true number minute) [] f) [])
-  unfolding bytes_written recorded_number bytes_recorded bytes_after written_number
+  unfolding bytes_recorded
   counted true true true true = sym (packed_length (stored_of f))
   counted true true true false = refl
   counted true true false m = refl
@@ -64,7 +64,7 @@ module _ (f : Fields) (old : List ℕ) where
 
 -- a log gets eight bytes at most
 pub bytes_most : (f : Fields) → length (record_bytes f) ≤ record_length
-unfolding record_bytes recorded_of written_of bytes_recorded bytes_after
+unfolding record_bytes recorded_of written_of bytes_recorded
 bytes_most f = go (ltb f.line line_limit) (known f.number) (ltb f.minute.0 week_minutes)
   where
     go : (line number minute : Bool) → length (bytes_recorded (answered line true number minute) [] f) ≤ record_length
@@ -72,17 +72,3 @@ bytes_most f = go (ltb f.line line_limit) (known f.number) (ltb f.minute.0 week_
     go true true false = omega arith
     go true false m = omega arith
     go false n m = omega arith
-
--- ---- how many bytes an answer tells
-module _ (r : Recorded) (w : Written) (e : r ≡ Writer w) (n : ℕ) (k : n ≡ written_number w) where
-  pub bytes_done : n ≡ 0 → record_length ≡ bytes_written r
-  unfolding bytes_written recorded_number
-  bytes_done z = rw (e, eq-eqb (written_number w) 0 (sym k ∙ z))
-
-  pub bytes_refused : (n ≡ 0 → ⊥) → 0 ≡ bytes_written r
-  unfolding bytes_written recorded_number
-  bytes_refused z = rw (e, ne_eqb (written_number w) 0 (λ h. z (k ∙ h)))
-
-pub bytes_long : (r : Recorded) → r ≡ LongLine → 0 ≡ bytes_written r
-unfolding bytes_written recorded_number
-bytes_long r e = rw e

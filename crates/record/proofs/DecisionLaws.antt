@@ -1,82 +1,26 @@
--- The record of what the call answered: what is asked of an answer, and that every answer but 10 has a record (02 (ii)).
+-- The record of what the call answered: every answer but 10 has a record (02 (ii)).
+use Rattle.std.specs.Prelude.{None, Ok, Option, Some}
 use mathlib.Core.Path.{◌≡◌, refl, ap}
 use mathlib.Core.Bool.{Bool, true, false, cond}
 use mathlib.Core.List.{List}
 use mathlib.Core.Logic.{◌⊎◌, inl, inr}
-use mathlib.Core.Option.{Option, none, some}
-use Prim.Native.Nat.{ℕ, ◌≤◌, ◌<◌}
+use Prim.Native.Nat.{ℕ, ◌≤◌}
 use native.Mathlib.Omega.{arith}
-use borrow.Author.Tests.{lt-ltb, le-ltb}
+use borrow.Author.Tests.{lt-ltb}
 use lib.Dec.{leb}
 use lib.ListN.{length}
 use Rattle.fault.proofs.Numbers.{cause_number}
-use Rattle.question.specs.declared.WeekMinute.{WeekMinute}
-use Rattle.question.specs.declared.LastAuthentication.{LastAuthentication}
 use Rattle.question.specs.Question.{Question}
 use Rattle.question.proofs.Told.{question_told, good_told}
 use Rattle.answer.specs.declared.Answer.{Answer}
-use Rattle.answer.specs.declared.Granted.{Granted}
 use Rattle.answer.specs.declared.Answer.TheVariants.{Permit, Password, NoEntry, StoppedByNargs, StoppedByArgument, StoppedByPath, MalformedQuestion, LongTable, RefusedByte, CutShort, RefusedLine, SmallBuffer}
 use Rattle.line.specs.Line.{table_limit}
-use Rattle.answer.specs.Answer.{least_buffer, Outcome, result, grant_in, told_of, told_by, deciding_line}
+use Rattle.answer.specs.Answer.{least_buffer, result, grant_in, told_of, told_by, deciding_line}
 use Rattle.answer.specs.Meaning.{Asked, asks, read_table, answer_of}
-use Rattle.record.specs.declared.Written.{Written}
-use Rattle.record.specs.declared.Written.TheVariants.{Done}
-use Rattle.record.specs.declared.Recorded.TheVariants.{Writer, LongLine}
 use Rattle.record.specs.Layout.{record_length}
-use Rattle.record.specs.Decision.{auth_beside, fields_by, line_limit, recorded_of, bytes_recorded}
-use Rattle.record.specs.Contract.{Writes, Records}
+use Rattle.record.specs.Decision.{fields_by, line_limit, by_writer, recorded_of}
 use Rattle.record.proofs.RoundTrip.{writer_takes}
 use Rattle.record.proofs.WithinLaws.{Within, answer_within}
-
--- ---- what the code asks of an answer
--- every other answer has no deciding line
-pub no_line : (a : Answer) (b : List ℕ)
-    → ((g : Granted) → a ≡ Permit g → ⊥) → ((g : Granted) → a ≡ Password g → ⊥)
-    → ((l : ℕ) → a ≡ StoppedByNargs l → ⊥) → ((l : ℕ) → a ≡ StoppedByArgument l → ⊥) → ((l : ℕ) → a ≡ StoppedByPath l → ⊥)
-    → 0 ≡ deciding_line (result a b)
-unfolding deciding_line told_of
-no_line (Permit g) b permit password nargs argument path = absurd (permit g refl)
-no_line (Password g) b permit password nargs argument path = absurd (password g refl)
-no_line NoEntry b permit password nargs argument path = refl
-no_line (StoppedByNargs l) b permit password nargs argument path = absurd (nargs l refl)
-no_line (StoppedByArgument l) b permit password nargs argument path = absurd (argument l refl)
-no_line (StoppedByPath l) b permit password nargs argument path = absurd (path l refl)
-no_line MalformedQuestion b permit password nargs argument path = refl
-no_line LongTable b permit password nargs argument path = refl
-no_line (RefusedByte p) b permit password nargs argument path = refl
-no_line (CutShort p) b permit password nargs argument path = refl
-no_line (RefusedLine c p) b permit password nargs argument path = refl
-no_line SmallBuffer b permit password nargs argument path = refl
-
--- what is no permit has no auth
-pub no_auth : (a : Answer) (b : List ℕ) → ((g : Granted) → a ≡ Permit g → ⊥) → ((g : Granted) → a ≡ Password g → ⊥) → false ≡ auth_beside (told_of a b).beside
-unfolding told_of
-no_auth (Permit g) b permit password = absurd (permit g refl)
-no_auth (Password g) b permit password = absurd (password g refl)
-no_auth NoEntry b permit password = refl
-no_auth (StoppedByNargs l) b permit password = refl
-no_auth (StoppedByArgument l) b permit password = refl
-no_auth (StoppedByPath l) b permit password = refl
-no_auth MalformedQuestion b permit password = refl
-no_auth LongTable b permit password = refl
-no_auth (RefusedByte p) b permit password = refl
-no_auth (CutShort p) b permit password = refl
-no_auth (RefusedLine c p) b permit password = refl
-no_auth SmallBuffer b permit password = refl
-
--- ---- what the code answers
-module _ (o : Outcome) (minute : WeekMinute) (age : LastAuthentication) (old : List ℕ) (line : ℕ) (e : line ≡ deciding_line o) where
-  pub line_long : 65535 < line → Records o minute age old old LongLine
-  unfolding recorded_of bytes_recorded fields_by
-  line_long h = record { answer = rw (le-ltb (deciding_line o) line_limit (omega arith)); bytes = refl }
-
-  pub line_held : (number : ℕ) (auth : Bool) (new : List ℕ) (w : Written) → line ≤ 65535 → number ≡ (told_by o).number → auth ≡ auth_beside (told_by o).beside
-      → Writes (record { number = number; line = line; minute = minute; auth = auth; age = age }) old new w → Records o minute age old new (Writer w)
-  unfolding recorded_of bytes_recorded fields_by
-  line_held number auth new w h n k x =
-      let y : Writes (record { number = (told_by o).number; line = deciding_line o; minute = minute; auth = auth_beside (told_by o).beside; age = age }) old new w = rw (n, e, k) at x in
-      record { answer = rw (lt-ltb (deciding_line o) line_limit (omega arith)) (ap Writer y.answer); bytes = y.bytes }
 
 -- ---- every answer of the call but 10 is taken
 -- "0 to 5 are decisions, 10 to 18 refusals"
@@ -117,10 +61,10 @@ module _ (t : List ℕ) (a : Asked) (b : List ℕ) where
   line_fits = line_within table_limit (answer_of t a b).answer (answer_of t a b).buffer (answer_within t a b)
 
   -- the record of an answer is written, where it is not 10 and the minute is one of the week
-  pub answer_taken : ((told_by (answer_of t a b)).number ≡ 10 → ⊥) → a.minute.0 ≤ 10079 → Writer Done ≡ recorded_of record_length (fields_by (answer_of t a b) a.minute a.age)
+  pub answer_taken : ((told_by (answer_of t a b)).number ≡ 10 → ⊥) → a.minute.0 ≤ 10079 → Ok tt ≡ recorded_of record_length (fields_by (answer_of t a b) a.minute a.age)
   unfolding recorded_of fields_by
   answer_taken h m =
-      rw (lt-ltb (deciding_line (answer_of t a b)) line_limit (omega (arith, line_fits))) (ap Writer (writer_takes _ (go (numbers (answer_of t a b).answer (answer_of t a b).buffer)) m))
+      rw (lt-ltb (deciding_line (answer_of t a b)) line_limit (omega (arith, line_fits))) (ap by_writer (writer_takes _ (go (numbers (answer_of t a b).answer (answer_of t a b).buffer)) m))
     where
       go : ((told_by (answer_of t a b)).number ≤ 5) ⊎ ((10 ≤ (told_by (answer_of t a b)).number) × ((told_by (answer_of t a b)).number ≤ 18)) → ((told_by (answer_of t a b)).number ≤ 5) ⊎ ((11 ≤ (told_by (answer_of t a b)).number) × ((told_by (answer_of t a b)).number ≤ 23))
       go (inl k) = inl k
@@ -132,8 +76,8 @@ module _ (t : List ℕ) (a : Asked) (b : List ℕ) where
   minute_taken h k = room (leb least_buffer (length b)) h k
     where
       good : (q : Option Question) → asks a ≡ q → ((told_by (read_table t b q)).number ≡ 10 → ⊥) → a.minute.0 ≤ 10079
-      good none e i = absurd (i refl)
-      good (some q) e i =
+      good None e i = absurd (i refl)
+      good (Some q) e i =
           let u = question_told a.command a.user a.groups a.host a.minute a.age a.args q e in
           omega (arith, u.its_minute_law, (good_told q u.good).minute)
 

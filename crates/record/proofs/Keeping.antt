@@ -1,28 +1,16 @@
--- Which numbers are known, and for which the line and the auth are kept.
-use mathlib.Core.Path.{◌≡◌, refl}
-use mathlib.Core.Bool.{Bool, true, false, cond, ◌&&◌, ◌||◌}
+-- Which numbers are known.
+use mathlib.Core.Path.{◌≡◌}
+use mathlib.Core.Bool.{true}
 use mathlib.Core.Logic.{◌⊎◌, inl, inr}
-use Prim.Native.Nat.{ℕ, ◌≤◌, ◌<◌}
+use Prim.Native.Nat.{ℕ, ◌≤◌}
 use native.Mathlib.Omega.{arith}
-use borrow.Author.Tests.{le-leb, lt-leb, leb-true, leb-false}
+use borrow.Author.Tests.{le-leb, leb-true}
 use lib.Dec.{leb}
 use Rattle.text.specs.Class.{within}
 use Rattle.text.proofs.Laws.{both_true, both_of, either_of, either_true}
-use Rattle.record.specs.Stored.{known, keeps_auth, keeps_line}
+use Rattle.record.specs.Stored.{known}
 
 module _ (n : ℕ) where
-  pub known_low : n ≤ 5 → true ≡ known n
-  unfolding known
-  known_low h = rw (le-leb n 5 h)
-
-  pub known_gap : 5 < n → n < 11 → leb 11 n ≡ known n
-  unfolding known
-  known_gap h g = rw (lt-leb n 5 h, lt-leb 11 n g)
-
-  pub known_high : 5 < n → 11 ≤ n → leb n 23 ≡ known n
-  unfolding known
-  known_high h g = rw (lt-leb n 5 h, le-leb 11 n g)
-
   pub known_told : known n ≡ true → (n ≤ 5) ⊎ ((11 ≤ n) × (n ≤ 23))
   unfolding known
   known_told e = go (either_true (leb n 5) (within 11 23 n) e)
@@ -43,27 +31,3 @@ module _ (n : ℕ) where
       go : (n ≤ 5) ⊎ ((11 ≤ n) × (n ≤ 23)) → n ≤ 23
       go (inl h) = omega arith
       go (inr h) = h.1
-
-  pub auth_kept : (a : Bool) → n ≤ 1 → a ≡ keeps_auth n && a
-  unfolding keeps_auth
-  auth_kept a h = rw (le-leb n 1 h)
-
-  pub auth_left : (a : Bool) → 1 < n → leb n 1 ≡ keeps_auth n && a
-  unfolding keeps_auth
-  auth_left a h = rw (lt-leb n 1 h)
-
-  pub line_two : (l : ℕ) → n ≡ 2 → 0 ≡ cond (keeps_line n) l 0
-  unfolding keeps_line
-  line_two l e = rw e
-
-  pub line_refusal : (l : ℕ) → 5 < n → 0 ≡ cond (keeps_line n) l 0
-  unfolding keeps_line
-  line_refusal l h = let g : 1 < n = omega arith in let k : 3 ≤ n = omega arith in rw (lt-leb n 1 g, le-leb 3 n k, lt-leb n 5 h)
-
-  pub line_kept : (l : ℕ) → (n ≡ 2 → ⊥) → n ≤ 5 → l ≡ cond (keeps_line n) l 0
-  unfolding keeps_line
-  line_kept l e h = go (leb n 1) refl
-    where
-      go : (t : Bool) → leb n 1 ≡ t → l ≡ cond (t || within 3 5 n) l 0
-      go true q = refl
-      go false q = let k : 3 ≤ n = omega (arith, leb-false n 1 q) in rw (le-leb 3 n k, le-leb n 5 h)

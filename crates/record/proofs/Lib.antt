@@ -1,7 +1,6 @@
 pub mod Ages
 pub mod Keeping
 pub mod Packing
-pub mod Answers
 pub mod RoundTrip
 pub mod WithinLaws
 pub mod DecisionLaws

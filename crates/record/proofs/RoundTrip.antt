@@ -1,73 +1,32 @@
 -- Reading what was written gives the stored fields back, and one set of stored fields has one record (02 (ii)).
+use Rattle.std.specs.Prelude.{Err, None, Ok, Result}
 use mathlib.Core.Path.{◌≡◌, refl, sym, ap, ◌∙◌}
 use mathlib.Core.Bool.{Bool, true, false, cond}
-use mathlib.Core.List.{List, [], ◌∷◌, ◌++◌, append_assoc, append-nil}
+use mathlib.Core.List.{List}
 use mathlib.Core.Logic.{◌⊎◌}
-use mathlib.Core.Option.{none}
-use Prim.Native.Nat.{ℕ, zero, suc, ◌+◌, ◌*◌, ◌/◌, ◌%◌, ◌^◌, ◌≤◌, ◌<◌}
-use native.Mathlib.Nat.{pow-suc, div-one, div-div-eq-div-mul, div-add-mod'}
+use Prim.Native.Nat.{ℕ, zero, suc, ◌+◌, ◌*◌, ◌/◌, ◌%◌, ◌≤◌, ◌<◌}
+use native.Mathlib.Nat.{div-one, div-div-eq-div-mul, div-add-mod'}
 use native.Mathlib.Omega.{arith}
 use borrow.Author.Tests.{eq-eqb, lt-ltb, ltb-true, eqb-true}
-use lib.Dec.{eqb, ltb, lit<}
-use lib.ListN.{length, length-append}
-use Rattle.text.specs.Lists.{all}
-use Rattle.text.proofs.Laws.{both_true, pick_of}
+use lib.Dec.{eqb, ltb}
+use lib.ListN.{length}
+use Rattle.text.proofs.Laws.{pick_of}
 use Rattle.record.specs.declared.Fields.{Fields}
-use Rattle.record.specs.declared.Written.{Written}
-use Rattle.record.specs.declared.Record.{Record}
-use Rattle.record.specs.declared.Record.TheVariants.{Stored, OtherVersion, UnknownNumber, BadMinute, WrongLength}
+use Rattle.record.specs.declared.RecordFault.{RecordFault}
+use Rattle.record.specs.declared.RecordFault.TheVariants.{OtherVersion, UnknownNumber, BadMinute, WrongLength}
 use Rattle.record.specs.Layout.{record_length, Bits, flag, packed_bits, unpacked_bits, bytes_of, number_from, size_of, bits_of, fields_of, packed}
 use Rattle.record.specs.Stored.{known, keeps_line, stored_of}
 use Rattle.record.specs.Read.{read_bits, record_in, record_told}
 use Rattle.record.specs.Write.{written_of, bytes_after, written_number}
 use Rattle.record.specs.Contract.{all_bytes, Writes}
-use Rattle.record.specs.contracts.Record.{the_type}
-use denote.Enum.Declared.{tag_of}
-use types.Run.{OneOf, miss}
 use Rattle.record.proofs.Ages.{age_back, sign_back, size_back, stored_most}
 use Rattle.record.proofs.Keeping.{known_most, known_of}
-use Rattle.record.proofs.Packing.{flag_most, grow}
-use Rattle.record.specs.declared.Written.TheVariants.{Done, UnknownNumber as NotWritten, BadMinute as NoMinute, WrongLength as NoRoom}
-
--- ---- bytes and numbers
-number_snoc : (s : List ℕ) (n b : ℕ) → number_from n (s ++ (b ∷ [])) ≡ number_from n s * 256 + b
-unfolding number_from
-number_snoc [] n b = refl
-number_snoc (x ∷ s) n b = number_snoc s (n * 256 + x) b
-
-bytes_back : (k n : ℕ) → n < 256 ^ k → number_from 0 (bytes_of k n) ≡ n
-unfolding bytes_of number_from
-bytes_back zero n h = omega arith
-bytes_back (suc k) n h =
-    let p : n < 256 ^ k * 256 = rw (← pow-suc 256 k) h in
-    let e = bytes_back k (n / 256) (omega arith) in
-    number_snoc (bytes_of k (n / 256)) 0 (n % 256) ∙ rw e (omega arith)
-
-bytes_length : (k n : ℕ) → length (bytes_of k n) ≡ k
-unfolding bytes_of
-bytes_length zero n = refl
-bytes_length (suc k) n = rw length-append (omega (arith, bytes_length k (n / 256)))
+use Rattle.record.proofs.Packing.{flag_most, bytes_length, bytes_back, number_whole, number_fits}
 
 -- a record has eight bytes
 pub packed_length : (f : Fields) → length (packed f) ≡ record_length
 unfolding packed
-packed_length f = bytes_length record_length (packed_bits (bits_of f))
-
-number_back : (s : List ℕ) (j n : ℕ) → all_bytes s ≡ true → bytes_of (j + length s) (number_from n s) ≡ bytes_of j n ++ s
-unfolding bytes_of number_from all_bytes all
-number_back [] j n a = let z : j + 0 ≡ j = omega arith in rw z (sym (append-nil (bytes_of j n)))
-number_back (b ∷ s) j n a =
-    let t = both_true (ltb b 256) (all_bytes s) a in
-    let h = ltb-true b 256 t.0 in
-    let z : j + suc (length s) ≡ suc j + length s = omega arith in
-    let q : (n * 256 + b) / 256 ≡ n = omega arith in
-    let r : (n * 256 + b) % 256 ≡ b = omega arith in
-    let e = number_back s (suc j) (n * 256 + b) t.1 in
-    rw z (e ∙ rw (q, r) (append_assoc (bytes_of j n) (b ∷ []) s))
-
-number_whole : (s : List ℕ) → all_bytes s ≡ true → bytes_of (length s) (number_from 0 s) ≡ s
-unfolding bytes_of
-number_whole s a = let z : 0 + length s ≡ length s = omega arith in rw z at (number_back s 0 0 a)
+packed_length f = bytes_length (packed_bits (bits_of f))
 
 -- ---- fields and bits
 flag_back : (t : Bool) (x : ℕ) → x ≡ flag t → eqb x 1 ≡ t
@@ -172,95 +131,71 @@ module _ (r : Fields) (h : Storable r) where
   unfolding bits_of
   narrow = let k = known_most r.number h.number in record { version = omega arith; number = omega arith; line = h.line; minute = omega (arith, h.minute); size = omega (arith, h.age) }
 
-  kept : read_bits (bits_of r) ≡ Stored r
+  kept : read_bits (bits_of r) ≡ Ok r
   unfolding read_bits bits_of
-  kept = rw (h.number, lt-ltb r.minute.0 10080 h.minute) (ap Stored (fields_back r))
+  kept = rw (h.number, lt-ltb r.minute.0 10080 h.minute) (ap Ok (fields_back r))
 
   -- reading the bytes of stored fields gives these fields
-  pub record_back : record_in (packed r) ≡ Stored r
+  pub record_back : record_in (packed r) ≡ Ok r
   unfolding record_in packed
   record_back =
-      let l = bytes_length 8 (packed_bits (bits_of r)) in
-      let n = bytes_back 8 (packed_bits (bits_of r)) (packed_fits (bits_of r) narrow) in
+      let l = bytes_length (packed_bits (bits_of r)) in
+      let n = bytes_back (packed_bits (bits_of r)) (packed_fits (bits_of r) narrow) in
       let b = packed_back (bits_of r) narrow in
-      rw (eq-eqb (length (bytes_of 8 (packed_bits (bits_of r)))) 8 l, n, b) kept
+      rw (eq-eqb (length (bytes_of (packed_bits (bits_of r)))) 8 l, n, b) kept
 
 -- ---- what was read
-abbrev shows : Record → Bool
-shows (Stored r) = true
-shows OtherVersion = false
-shows UnknownNumber = false
-shows BadMinute = false
-shows WrongLength = false
-
-picked : (t : Bool) (a b : Record) (r : Fields) → shows b ≡ false → cond t a b ≡ Stored r → (t ≡ true) × (a ≡ Stored r)
-picked true a b r n e = (refl, e)
-picked false a b r n e = let q = ap shows e in let z : ◌≡◌ {A = ℕ} 0 1 = cc in absurd (omega arith)
+picked : {A : Type 0} (t : Bool) (a : Result A RecordFault) (fault : RecordFault) (r : A) → cond t a (Err fault) ≡ Ok r → (t ≡ true) × (a ≡ Ok r)
+picked true a fault r e = (refl, e)
+picked false a fault r e = cc
 
 -- what a reading that shows fields has passed
 record Passed (s : List ℕ) (r : Fields) : Type 0 where
   long : length s ≡ 8
-  version : (unpacked_bits (number_from 0 s)).version ≡ 1
-  number : known (unpacked_bits (number_from 0 s)).number ≡ true
-  minute : (unpacked_bits (number_from 0 s)).minute < 10080
-  fields : r ≡ fields_of (unpacked_bits (number_from 0 s))
+  version : (unpacked_bits (number_from s)).version ≡ 1
+  number : known (unpacked_bits (number_from s)).number ≡ true
+  minute : (unpacked_bits (number_from s)).minute < 10080
+  fields : r ≡ fields_of (unpacked_bits (number_from s))
 
-passed : (s : List ℕ) (r : Fields) → record_in s ≡ Stored r → Passed s r
+passed : (s : List ℕ) (r : Fields) → record_in s ≡ Ok r → Passed s r
 unfolding record_in read_bits
 passed s r e =
-    let u : Bits = unpacked_bits (number_from 0 s) in
-    let d : Record = cond (ltb u.minute 10080) (Stored (fields_of u)) BadMinute in
-    let n : Record = cond (known u.number) d UnknownNumber in
-    let v : Record = cond (eqb u.version 1) n OtherVersion in
-    let p0 = picked (eqb (length s) 8) v WrongLength r refl e in
-    let p1 = picked (eqb u.version 1) n OtherVersion r refl p0.1 in
-    let p2 = picked (known u.number) d UnknownNumber r refl p1.1 in
-    let p3 = picked (ltb u.minute 10080) (Stored (fields_of u)) BadMinute r refl p2.1 in
-    record { long = eqb-true (length s) 8 p0.0; version = eqb-true u.version 1 p1.0; number = p2.0; minute = ltb-true u.minute 10080 p3.0; fields = same (fields_of u) r p3.1 }
-  where
-    same : (q r : Fields) → Stored q ≡ Stored r → r ≡ q
-    same q r e = cc
+    let u : Bits = unpacked_bits (number_from s) in
+    let p0 = picked (eqb (length s) 8) (read_bits u) WrongLength r e in
+    let p1 = picked (eqb u.version 1) _ OtherVersion r p0.1 in
+    let p2 = picked (known u.number) _ UnknownNumber r p1.1 in
+    let p3 = picked (ltb u.minute 10080) (Ok (fields_of u)) BadMinute r p2.1 in
+    record { long = eqb-true (length s) 8 p0.0; version = eqb-true u.version 1 p1.0; number = p2.0; minute = ltb-true u.minute 10080 p3.0; fields = cc }
 
-number_fits : (s : List ℕ) (n i : ℕ) → all_bytes s ≡ true → n < 256 ^ i → number_from n s < 256 ^ (i + length s)
-unfolding all_bytes all number_from
-number_fits [] n i a h = let z : i + 0 ≡ i = omega arith in rw z h
-number_fits (b ∷ s) n i a h =
-    let t = both_true (ltb b 256) (all_bytes s) a in
-    let z : i + suc (length s) ≡ i + 1 + length s = omega arith in
-    rw z (number_fits s (n * 256 + b) (i + 1) t.1 (grow n i b h (ltb-true b 256 t.0)))
-
-module _ (s : List ℕ) (r : Fields) (e : record_in s ≡ Stored r) where
+module _ (s : List ℕ) (r : Fields) (e : record_in s ≡ Ok r) where
   -- eight bytes that read as fields are the record of these fields
   pub read_back : all_bytes s ≡ true → packed r ≡ s
   unfolding packed
   read_back a =
       let p = passed s r e in
-      let u = bits_back (unpacked_bits (number_from 0 s)) p.version in
-      let l : number_from 0 s < 18446744073709551616 = rw p.long at (number_fits s 0 0 a (lit< tt)) in
-      rw (p.fields, u, unpacked_back (number_from 0 s) l) (rw p.long at (number_whole s a))
+      let u = bits_back (unpacked_bits (number_from s)) p.version in
+      rw (p.fields, u, unpacked_back (number_from s) (number_fits s a)) (number_whole s a p.long)
 
   -- what is known of fields that were read
   pub read_known : Storable r
   unfolding fields_of unpacked_bits
   read_known =
       let p = passed s r e in
-      rw p.fields (record { number = p.number; line = omega arith; minute = p.minute; age = rw (size_back (unpacked_bits (number_from 0 s)).below (unpacked_bits (number_from 0 s)).size) (omega arith) })
+      rw p.fields (record { number = p.number; line = omega arith; minute = p.minute; age = rw (size_back (unpacked_bits (number_from s)).below (unpacked_bits (number_from s)).size) (omega arith) })
 
 -- "one set of stored fields has one record": two records that read as the same fields are the same bytes
-pub one_record : (s t : List ℕ) (r : Fields) → all_bytes s ≡ true → all_bytes t ≡ true → record_in s ≡ Stored r → record_in t ≡ Stored r → s ≡ t
+pub one_record : (s t : List ℕ) (r : Fields) → all_bytes s ≡ true → all_bytes t ≡ true → record_in s ≡ Ok r → record_in t ≡ Ok r → s ≡ t
 one_record s t r a b e f = sym (read_back s r e a) ∙ read_back t r f b
 
 -- ---- what was written
-module _ (g : Fields) (old new : List ℕ) (w : Writes g old new Done) where
+module _ (g : Fields) (old new : List ℕ) (w : Writes g old new (Ok tt)) where
   written_known : (known g.number ≡ true) × (g.minute.0 < 10080)
   unfolding written_of
-  written_known = go (eqb (length old) 8) (known g.number) (ltb g.minute.0 10080) refl refl w.answer
-    where
-      go : (a b c : Bool) → known g.number ≡ b → ltb g.minute.0 10080 ≡ c → Done ≡ cond a (cond b (cond c Done NoMinute) NotWritten) NoRoom → (known g.number ≡ true) × (g.minute.0 < 10080)
-      go true true true k m e = (k, ltb-true g.minute.0 10080 m)
-      go true true false k m e = let z : ◌≡◌ {A = ℕ} 0 1 = cc in absurd (omega arith)
-      go true false c k m e = let z : ◌≡◌ {A = ℕ} 0 1 = cc in absurd (omega arith)
-      go false b c k m e = let z : ◌≡◌ {A = ℕ} 0 1 = cc in absurd (omega arith)
+  written_known =
+      let p0 = picked (eqb (length old) 8) _ WrongLength tt (sym w.answer) in
+      let p1 = picked (known g.number) _ UnknownNumber tt p0.1 in
+      let p2 = picked (ltb g.minute.0 10080) (Ok tt) BadMinute tt p1.1 in
+      (p1.0, ltb-true g.minute.0 10080 p2.0)
 
   stored_fits : g.line < 65536 → Storable (stored_of g)
   unfolding stored_of
@@ -272,62 +207,45 @@ module _ (g : Fields) (old new : List ℕ) (w : Writes g old new Done) where
   }
 
   -- "Reading what was written gives the stored fields back"
-  pub written_back : g.line < 65536 → record_in new ≡ Stored (stored_of g)
+  pub written_back : g.line < 65536 → record_in new ≡ Ok (stored_of g)
   unfolding bytes_after
   written_back h = rw w.bytes (record_back (stored_of g) (stored_fits h))
 
 -- every number but 10 and those that no answer has, with a minute of the week, is written into eight bytes
-pub writer_takes : (g : Fields) → (g.number ≤ 5) ⊎ ((11 ≤ g.number) × (g.number ≤ 23)) → g.minute.0 ≤ 10079 → Done ≡ written_of 8 g
+pub writer_takes : (g : Fields) → (g.number ≤ 5) ⊎ ((11 ≤ g.number) × (g.number ≤ 23)) → g.minute.0 ≤ 10079 → Ok tt ≡ written_of 8 g
 unfolding written_of
 writer_takes g k m = rw (known_of g.number k, lt-ltb g.minute.0 10080 (omega arith))
 
 -- ---- what is refused
-pub refused_shows_nothing : (r : Record) → ((record_told r).number ≡ 0 → ⊥) → (record_told r).shown ≡ none
+pub refused_shows_nothing : (r : Result Fields RecordFault) → ((record_told r).number ≡ 0 → ⊥) → (record_told r).shown ≡ None
 unfolding record_told
-refused_shows_nothing (Stored r) h = absurd (h refl)
-refused_shows_nothing OtherVersion h = refl
-refused_shows_nothing UnknownNumber h = refl
-refused_shows_nothing BadMinute h = refl
-refused_shows_nothing WrongLength h = refl
-
--- the refusals, as a match on the answer sees them
-abbrev pub refusals : List ℕ
-refusals = 1 ∷ 2 ∷ 3 ∷ 4 ∷ []
-
-pub refusal_shows_nothing : (r : Record) → OneOf refusals (tag_of the_type r) → (record_told r).shown ≡ none
-unfolding record_told
-refusal_shows_nothing (Stored f) h = absurd (miss refusals 0 tt h)
-refusal_shows_nothing OtherVersion h = refl
-refusal_shows_nothing UnknownNumber h = refl
-refusal_shows_nothing BadMinute h = refl
-refusal_shows_nothing WrongLength h = refl
+refused_shows_nothing (Ok f) h = absurd (h refl)
+refused_shows_nothing (Err fault) h = refl
 
 -- and the writer leaves the bytes as they were
-pub refused_writes_nothing : (g : Fields) (old new : List ℕ) (r : Written) → Writes g old new r → (written_number r ≡ 0 → ⊥) → new ≡ old
+pub refused_writes_nothing : (g : Fields) (old new : List ℕ) (r : Result Unit RecordFault) → Writes g old new r → (written_number r ≡ 0 → ⊥) → new ≡ old
 unfolding written_number bytes_after
-refused_writes_nothing g old new Done w h = absurd (h refl)
-refused_writes_nothing g old new NotWritten w h = w.bytes
-refused_writes_nothing g old new NoMinute w h = w.bytes
-refused_writes_nothing g old new NoRoom w h = w.bytes
+refused_writes_nothing g old new (Ok done) w h = absurd (h refl)
+refused_writes_nothing g old new (Err fault) w h = w.bytes
 
 -- the numbers of the refusals, in their order
 pub write_order : (size : ℕ) (g : Fields) → written_number (written_of size g) ≡ cond (eqb size 8) (cond (known g.number) (cond (ltb g.minute.0 10080) 0 3) 2) 4
 unfolding written_number written_of
 write_order size g = go (eqb size 8) (known g.number) (ltb g.minute.0 10080)
   where
-    go : (a b c : Bool) → written_number (cond a (cond b (cond c Done NoMinute) NotWritten) NoRoom) ≡ cond a (cond b (cond c 0 3) 2) 4
+    go : (a b c : Bool) → written_number (cond a (cond b (cond c (Ok tt) (Err BadMinute)) (Err UnknownNumber)) (Err WrongLength)) ≡ cond a (cond b (cond c 0 3) 2) 4
     go true true true = refl
     go true true false = refl
     go true false c = refl
     go false b c = refl
 
-pub read_order : (s : List ℕ) → let u : Bits = unpacked_bits (number_from 0 s) in (record_told (record_in s)).number ≡ cond (eqb (length s) 8) (cond (eqb u.version 1) (cond (known u.number) (cond (ltb u.minute 10080) 0 3) 2) 1) 4
+pub read_order : (s : List ℕ) → let u : Bits = unpacked_bits (number_from s) in (record_told (record_in s)).number ≡ cond (eqb (length s) 8) (cond (eqb u.version 1) (cond (known u.number) (cond (ltb u.minute 10080) 0 3) 2) 1) 4
 unfolding record_told record_in read_bits
 read_order s =
-    let u : Bits = unpacked_bits (number_from 0 s) in
+    let u : Bits = unpacked_bits (number_from s) in
     go (fields_of u) (eqb (length s) 8) (eqb u.version 1) (known u.number) (ltb u.minute 10080)
   where
-    go : (r : Fields) (a b c d : Bool) → (record_told (cond a (cond b (cond c (cond d (Stored r) BadMinute) UnknownNumber) OtherVersion) WrongLength)).number ≡ cond a (cond b (cond c (cond d 0 3) 2) 1) 4
+    go : (r : Fields) (a b c d : Bool) → (record_told (cond a (cond b (cond c (cond d (Ok r) (Err BadMinute)) (Err UnknownNumber)) (Err OtherVersion)) (Err WrongLength))).number ≡ cond a (cond b (cond c (cond d 0 3) 2) 1) 4
     go r true true true true = refl
     go r true true true false = refl
     go r true true false d = refl

@@ -1,18 +1,18 @@
 -- The lines, places and ends that an answer to a table tells are at most 32,768: 16 bits hold each of them. Assumes nothing.
+use Rattle.std.specs.Option.{option_map, option_or}
+use Rattle.std.specs.Prelude.{Err, None, Ok, Option, Result, Some}
 use mathlib.Core.Path.{◌≡◌, refl}
 use mathlib.Core.Bool.{Bool, true, false, cond}
 use mathlib.Core.List.{List}
-use mathlib.Core.Option.{Option, none, some, or_else, map}
 use Prim.Native.Nat.{ℕ, ◌≤◌}
 use native.Mathlib.Omega.{arith}
 use lib.Dec.{leb}
 use lib.ListN.{length, length-append}
 use Rattle.fault.specs.declared.Cause.{Cause}
-use Rattle.fault.specs.Fault.{Reading, fault, value}
 use Rattle.line.specs.Line.{table_limit, Line, backslash}
 use Rattle.line.specs.Fold.{Refusal, faulty, cut}
-use Rattle.line.specs.declared.whole.Acceptance.{Acceptance}
-use Rattle.line.specs.declared.whole.Acceptance.TheVariants.{Accepted, Long, RefusedAt}
+use Rattle.line.specs.declared.whole.Unaccepted.{Unaccepted}
+use Rattle.line.specs.declared.whole.Unaccepted.TheVariants.{Long, RefusedAt}
 use Rattle.line.specs.Whole.{acceptance_of}
 use Rattle.question.specs.Question.{Question}
 use Rattle.options.specs.Options.{Options}
@@ -33,8 +33,8 @@ use Rattle.answer.specs.declared.Answer.TheVariants.{Permit, Password, NoEntry, 
 
 -- ---- what the control lines give
 abbrev pub DecidedWithin : ℕ → Option Decision → Type 0
-DecidedWithin n none = Unit {0}
-DecidedWithin n (some d) = d.line ≤ n
+DecidedWithin n None = Unit {0}
+DecidedWithin n (Some d) = d.line ≤ n
 
 record Held (n : ℕ) (s : State) : Type 0 where
   pub short : ShortState s
@@ -44,13 +44,12 @@ held_start : (n : ℕ) → Held n start
 unfolding start
 held_start n = record { short = short_start; line = tt }
 
-decided_or : (n line : ℕ) (o : Option Decision) (v : Option Verdict) → line ≤ n → DecidedWithin n o → DecidedWithin n (or_else o (map (decided_at line) v))
-unfolding or_else
-decided_or n line none none h k = tt
-decided_or n line none (some v) h k = h
-decided_or n line (some d) v h k = k
+decided_or : (n line : ℕ) (o : Option Decision) (v : Option Verdict) → line ≤ n → DecidedWithin n o → DecidedWithin n (option_or o (option_map (decided_at line) v))
+decided_or n line None None h k = tt
+decided_or n line None (Some v) h k = h
+decided_or n line (Some d) v h k = k
 
-held_keeps : (n : ℕ) (q : Question) (s s' : State) (l : Line) → LineWithin n l → Held n s → line_read q s l ≡ value s' → Held n s'
+held_keeps : (n : ℕ) (q : Question) (s s' : State) (l : Line) → LineWithin n l → Held n s → line_read q s l ≡ Ok s' → Held n s'
 held_keeps n q s s' l w h e =
     let k = line_keeps q s s' l e in
     record { short = short_keeps q s s' l h.short e; line = rw k.decides (decided_or n l.number s.decision k.own w.number h.line) }
@@ -107,20 +106,20 @@ module _ (b : List ℕ) where
   resolved_within line stopped_by_argument h k = h
   resolved_within line stopped_by_path h k = h
 
-  settled_within : (n : ℕ) (r : Reading (Refusal Cause) (Option Decision)) → n ≤ table_limit → ReadWithin n (Give n) r → Within table_limit (settled b r).answer
-  settled_within n (fault (faulty c p)) h k = omega arith
-  settled_within n (fault (cut p)) h k = omega arith
-  settled_within n (value none) h k = tt
-  settled_within n (value (some d)) h k = resolved_within d.line d.verdict (omega (arith, k.1)) k.0
+  settled_within : (n : ℕ) (r : Result (Option Decision) (Refusal Cause)) → n ≤ table_limit → ReadWithin n (Give n) r → Within table_limit (settled b r).answer
+  settled_within n (Err (faulty c p)) h k = omega arith
+  settled_within n (Err (cut p)) h k = omega arith
+  settled_within n (Ok None) h k = tt
+  settled_within n (Ok (Some d)) h k = resolved_within d.line d.verdict (omega (arith, k.1)) k.0
 
   table_within : (t : List ℕ) (o : Option Question) → Within table_limit (read_table t b o).answer
-  table_within t none = tt
-  table_within t (some q) = by (acceptance_of t) refl
+  table_within t None = tt
+  table_within t (Some q) = by (acceptance_of t) refl
     where
-      by : (x : Acceptance) → acceptance_of t ≡ x → Within table_limit (read_bytes t q b x).answer
-      by Long e = tt
-      by (RefusedAt p) e = refused_within t e
-      by Accepted e = settled_within (length t) (lines_give q t) (accepted_short t e) (lines_give_law q t)
+      by : (x : Result Unit Unaccepted) → acceptance_of t ≡ x → Within table_limit (read_bytes t q b x).answer
+      by (Err Long) e = tt
+      by (Err (RefusedAt p)) e = refused_within t e
+      by (Ok accepted) e = settled_within (length t) (lines_give q t) (accepted_short t e) (lines_give_law q t)
 
 -- no answer to a table tells a line, a place or an end above 32,768
 pub answer_within : (t : List ℕ) (a : Asked) (b : List ℕ) → Within table_limit (answer_of t a b).answer

@@ -1,29 +1,27 @@
 -- What only contracts and laws cite: bytes, what the writer leaves, and what lent bytes get.
-use Rattle.std.specs.Prelude.{ℕ, ◌≡◌, Bool, cond, List, [], eqb, ltb, length}
-use Rattle.std.proofs.Math.Option.{Option, none, some}
-use Rattle.text.specs.Lists.{all}
+use Rattle.question.specs.declared.Age.{Age}
+use Rattle.std.specs.List.{list_all}
+use Rattle.std.specs.Prelude.{ℕ, ◌≡◌, Bool, cond, List, [], eqb, ltb, length, Option, Err, Ok, Result}
 use Rattle.question.specs.declared.WeekMinute.{WeekMinute}
-use Rattle.question.specs.declared.LastAuthentication.{LastAuthentication}
 use Rattle.answer.specs.Answer.{Outcome}
 use Rattle.record.specs.declared.Fields.{Fields}
-use Rattle.record.specs.declared.Written.{Written}
-use Rattle.record.specs.declared.Recorded.{Recorded}
+use Rattle.record.specs.declared.RecordFault.{RecordFault}
+use Rattle.record.specs.declared.Unrecorded.{Unrecorded}
 use Rattle.record.specs.Layout.{record_length}
 use Rattle.record.specs.Write.{written_of, bytes_after}
-use Rattle.record.specs.Decision.{fields_by, recorded_of, bytes_recorded, recorded_number}
+use Rattle.record.specs.Decision.{fields_by, recorded_of, bytes_recorded}
 
 -- every element is a byte, as each element of a slice of bytes is
 unfoldable pub all_bytes : List ℕ → Bool
-unfolding all
-all_bytes s = all (λ b. ltb b 256) s
+all_bytes s = list_all (λ b. ltb b 256) s
 
 -- fields were given to the writer: its answer, and the bytes
-pub record Writes (f : Fields) (old new : List ℕ) (r : Written) : Type 0 where
+pub record Writes (f : Fields) (old new : List ℕ) (r : Result Unit RecordFault) : Type 0 where
   pub answer : r ≡ written_of (length old) f
   pub bytes : new ≡ bytes_after r old f
 
 -- an outcome was given to be recorded: the answer, and the bytes
-pub record Records (o : Outcome) (minute : WeekMinute) (age : LastAuthentication) (old new : List ℕ) (r : Recorded) : Type 0 where
+pub record Records (o : Outcome) (minute : WeekMinute) (age : (Option Age)) (old new : List ℕ) (r : Result Unit Unrecorded) : Type 0 where
   pub answer : r ≡ recorded_of (length old) (fields_by o minute age)
   pub bytes : new ≡ bytes_recorded r old (fields_by o minute age)
 
@@ -31,12 +29,7 @@ pub record Records (o : Outcome) (minute : WeekMinute) (age : LastAuthentication
 unfoldable pub record_within : (size : ℕ) → List ℕ → List ℕ
 record_within size r = cond (eqb size record_length) r []
 
--- eight bytes were written where there was no refusal
-abbrev pub bytes_numbered : Option ℕ → ℕ
-bytes_numbered (some n) = cond (eqb n 0) record_length 0
-bytes_numbered none = 0
-
--- how many bytes were written
-unfoldable pub bytes_written : Recorded → ℕ
-unfolding recorded_number
-bytes_written r = bytes_numbered (recorded_number r)
+-- how many bytes were written: eight where there was no refusal
+abbrev pub bytes_written : Result Unit Unrecorded → ℕ
+bytes_written (Ok done) = record_length
+bytes_written (Err fault) = 0

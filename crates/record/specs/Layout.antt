@@ -1,8 +1,8 @@
 -- The eight bytes of a record: "bit-packed fields, most significant first" (02 (ii)).
-use Rattle.std.specs.Prelude.{ℕ, zero, suc, ◌+◌, ◌*◌, ◌/◌, ◌%◌, ◌^◌, Bool, true, false, List, [], ◌∷◌, ◌++◌, eqb, pos, negsuc, nat_abs}
+use Rattle.question.specs.declared.Age.{Age}
+use Rattle.std.specs.Prelude.{ℕ, zero, suc, ◌+◌, ◌*◌, ◌/◌, ◌%◌, ◌^◌, Bool, true, false, List, eqb, pos, negsuc, nat_abs, None, Option, Some}
+use Rattle.std.specs.Int.{w64, to_be_bytes, from_be_bytes}
 use Rattle.std.specs.Int.Signed.{lt_z}
-use Rattle.question.specs.declared.LastAuthentication.{LastAuthentication}
-use Rattle.question.specs.declared.LastAuthentication.TheVariants.{Never, Minutes}
 use Rattle.record.specs.declared.Fields.{Fields}
 
 -- the bytes of a record
@@ -49,30 +49,28 @@ unpacked_bits n = record {
   size = bits_at 0 24 n;
 }
 
--- k bytes of a number, most significant first
-unfoldable pub bytes_of : (k n : ℕ) → List ℕ
-bytes_of zero n = []
-bytes_of (suc k) n = bytes_of k (n / 256) ++ (n % 256 ∷ [])
+-- the eight bytes of a number, most significant first
+unfoldable pub bytes_of : ℕ → List ℕ
+bytes_of n = to_be_bytes w64 n
 
--- the number of which n stands in front and these bytes behind it
-unfoldable pub number_from : ℕ → List ℕ → ℕ
-number_from n [] = n
-number_from n (b ∷ s) = number_from (n * 256 + b) s
+-- the number of eight bytes, most significant first
+unfoldable pub number_from : List ℕ → ℕ
+number_from s = from_be_bytes w64 s
 
 -- "`Never` is the sign bit with size 0"
-unfoldable pub is_below : LastAuthentication → Bool
-is_below Never = true
-is_below (Minutes a) = lt_z a.0 (pos 0)
+unfoldable pub is_below : (Option Age) → Bool
+is_below None = true
+is_below (Some a) = lt_z a.0 (pos 0)
 
-unfoldable pub size_of : LastAuthentication → ℕ
-size_of Never = 0
-size_of (Minutes a) = nat_abs a.0
+unfoldable pub size_of : (Option Age) → ℕ
+size_of None = 0
+size_of (Some a) = nat_abs a.0
 
 -- the age of a sign and a size
-unfoldable pub age_from : (below : Bool) → (size : ℕ) → LastAuthentication
-age_from false n = Minutes (record { 0 = pos n })
-age_from true zero = Never
-age_from true (suc n) = Minutes (record { 0 = negsuc n })
+unfoldable pub age_from : (below : Bool) → (size : ℕ) → (Option Age)
+age_from false n = Some (record { 0 = pos n })
+age_from true zero = None
+age_from true (suc n) = Some (record { 0 = negsuc n })
 
 -- the fields as bits
 unfoldable pub bits_of : Fields → Bits
@@ -98,4 +96,4 @@ fields_of b = record {
 
 -- the eight bytes of fields
 unfoldable pub packed : Fields → List ℕ
-packed f = bytes_of record_length (packed_bits (bits_of f))
+packed f = bytes_of (packed_bits (bits_of f))

@@ -1,7 +1,7 @@
 -- What is stored of what the writer is given (02 (ii)).
-use Rattle.std.specs.Prelude.{ℕ, min, Bool, cond, ◌&&◌, ◌||◌, leb}
+use Rattle.question.specs.declared.Age.{Age}
+use Rattle.std.specs.Prelude.{ℕ, min, Bool, cond, ◌&&◌, ◌||◌, leb, Option}
 use Rattle.text.specs.Class.{within}
-use Rattle.question.specs.declared.LastAuthentication.{LastAuthentication}
 use Rattle.record.specs.declared.Fields.{Fields}
 use Rattle.record.specs.Layout.{is_below, size_of, age_from}
 
@@ -22,7 +22,7 @@ abbrev pub largest_size : ℕ
 largest_size = 16777215
 
 -- "Larger sizes are stored as 16,777,215."
-unfoldable pub stored_age : LastAuthentication → LastAuthentication
+unfoldable pub stored_age : (Option Age) → (Option Age)
 stored_age age = age_from (is_below age) (min (size_of age) largest_size)
 
 -- the fields that are stored of those given

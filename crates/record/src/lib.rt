@@ -2,21 +2,21 @@
 #![tactic(auto)]
 
 ghost use Rattle.std.specs.Prelude.{◌≡◌};
+ghost use Rattle.record.specs.declared.Unrecorded.TheVariants.{Writer};
 ghost use Rattle.record.specs.Contract.{bytes_written};
-ghost use Rattle.record.specs.Read.{record_told};
-ghost use Rattle.record.specs.Write.{written_number};
+ghost use Rattle.record.specs.Fault.{fault_number};
 
-use question::{LastAuthentication, WeekMinute};
+use question::{Age, WeekMinute};
 
 pub mod age; // the sign and the size of an age
 pub mod decision; // from the call's answer to a record
-mod layout; // the fields in 64 bits, and the bytes of a number
+mod layout; // the fields in 64 bits
 pub mod read; // from eight bytes to the fields
 mod stored; // what is kept of what the writer is given
 pub mod write; // from the fields to eight bytes
 
 // The stored fields of a record.
-#[derive(Drop)]
+#[derive(Clone, Copy)]
 pub struct Fields {
     // The answer's number.
     pub number: u8,
@@ -25,18 +25,12 @@ pub struct Fields {
     pub minute: WeekMinute,
     // The effective auth.
     pub auth: bool,
-    pub age: LastAuthentication,
+    pub age: Option<Age>,
 }
 
-// What eight bytes are as a record. One that is refused shows nothing.
+// Eight bytes for one decision.
 #[derive(Drop)]
-pub enum Record {
-    Stored(Fields),
-    OtherVersion,
-    UnknownNumber,
-    BadMinute,
-    WrongLength,
-}
+pub struct Record;
 
 impl Record {
     // The bytes of one.
@@ -47,66 +41,51 @@ impl Record {
 
     // The largest size of an age that is stored.
     pub const AGE_SIZE: u64 = 16777215;
-
-    // The refusal's number, 0 for none.
-    pub fn number(self) -> u8
-        ensures { result ≡ (record_told self).number }
-    {
-        match self {
-            Record::Stored(_) => 0,
-            Record::OtherVersion => 1,
-            Record::UnknownNumber => 2,
-            Record::BadMinute => 3,
-            Record::WrongLength => 4,
-        }
-    }
 }
 
-// What the writer answers.
-#[derive(Drop)]
-pub enum Written {
-    Done,
+// Why bytes are refused as a record, or fields as one's; a refusal shows and writes nothing.
+#[derive(Clone, Copy, PartialEq, Eq)]
+pub enum RecordFault {
+    OtherVersion,
     UnknownNumber,
     BadMinute,
     WrongLength,
 }
 
-impl Written {
-    // The refusal's number, 0 for none.
+impl RecordFault {
+    // The refusal's number.
     pub fn number(self) -> u8
-        ensures { result ≡ written_number self }
+        ensures { result ≡ fault_number self }
     {
         match self {
-            Written::Done => 0,
-            Written::UnknownNumber => 2,
-            Written::BadMinute => 3,
-            Written::WrongLength => 4,
+            RecordFault::OtherVersion => 1,
+            RecordFault::UnknownNumber => 2,
+            RecordFault::BadMinute => 3,
+            RecordFault::WrongLength => 4,
         }
     }
 }
 
-// What is answered where an answer of the call is to be recorded.
-#[derive(Drop)]
-pub enum Recorded {
-    // What the writer answered.
-    Writer(Written),
-    // The line does not fit 16 bits; nothing was written.
+// Why no record is made of an answer of the call; nothing was written.
+#[derive(Clone, Copy, PartialEq, Eq)]
+pub enum Unrecorded {
+    // The writer refuses it.
+    Writer(RecordFault),
+    // The line does not fit 16 bits.
     LongLine,
 }
 
-impl Recorded {
-    // How many bytes were written: all eight, or none.
-    pub fn bytes(self) -> usize
-        ensures { result ≡ bytes_written self }
-    {
-        match self {
-            Recorded::Writer(written) => {
-                if written.number() == 0 {
-                    return Record::BYTES;
-                }
-                0
-            }
-            Recorded::LongLine => 0,
-        }
+impl From<RecordFault> for Unrecorded {
+    ghost from_gives = { λ fault r. r ≡ Writer fault };
+
+    fn from(fault: RecordFault) -> Unrecorded {
+        Unrecorded::Writer(fault)
     }
+}
+
+// How many bytes were written: all eight, or none.
+pub fn bytes_recorded(recorded: Result<(), Unrecorded>) -> usize
+    ensures { result ≡ bytes_written recorded }
+{
+    if recorded.is_ok() { Record::BYTES } else { 0 }
 }

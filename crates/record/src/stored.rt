@@ -3,16 +3,15 @@ ghost use Rattle.std.specs.Prelude.{◌≡◌, cond, ◌&&◌};
 ghost use Rattle.record.specs.Stored.{known, keeps_auth, keeps_line};
 
 // 0 to 5 and 11 to 23.
+#[tactic(auto, using(std::proofs::lemmas::Bool::Decides::nat_tests), unfolding(crate::specs::Stored::known))]
 pub fn is_known(number: u8) -> bool
     ensures { result ≡ known number }
 {
-    if number <= 5 {
-        return true;
-    }
-    number >= 11 && number <= 23
+    number <= 5 || (11..=23).contains(&number)
 }
 
 // The auth of the answers 0 and 1, else none.
+#[tactic(auto, using(std::proofs::lemmas::Bool::Decides::nat_tests), unfolding(crate::specs::Stored::keeps_auth))]
 pub fn kept_auth(number: u8, auth: bool) -> bool
     ensures { result ≡ keeps_auth number && auth }
 {
@@ -20,14 +19,9 @@ pub fn kept_auth(number: u8, auth: bool) -> bool
 }
 
 // The line of the answers that a line decides, else 0.
+#[tactic(auto, using(std::proofs::lemmas::Bool::Decides::nat_tests), unfolding(crate::specs::Stored::keeps_line))]
 pub fn kept_line(number: u8, line: u16) -> u16
     ensures { result ≡ cond (keeps_line number) line 0 }
 {
-    if number == 2 {
-        return 0;
-    }
-    if number > 5 {
-        return 0;
-    }
-    line
+    if number == 2 || number > 5 { 0 } else { line }
 }

@@ -1,20 +1,16 @@
 // What was handed to a log's file.
 ghost use Rattle.std.specs.Prelude.{◌≡◌, true, length, take};
 ghost use Rattle.std.specs.Io.{WritesAtMost};
-ghost use Rattle.record_log.specs.Appending.{clamp_len, took_all, AfterWrite, HandsOn, AppendsFirst};
+ghost use Rattle.record_log.specs.Appending.{took_all, AfterWrite, HandsOn, AppendsFirst};
 
 use std::fs::File;
 use std::io;
 use std::io::{Error, Stderr, Write};
 use streams::message;
 use streams::standard_output::count_on;
-use text::number::at_most;
 
 // The number that the system has for a write to no open file.
 const NOT_OPEN: i32 = 9;
-
-// What a write that failed tells in place of a count.
-const FAILED: isize = -1;
 
 // How many bytes were handed to a log, and whether each write took all that it was given. Both are private, so that no
 // caller can have others but by handing bytes on.
@@ -24,41 +20,26 @@ pub struct Appended {
     whole: bool,
 }
 
-// What a write told, as a number of the part's bytes: 0 where it failed.
-fn count(told: isize, part: &[u8]) -> usize
-    ensures { result ≡ clamp_len told (length part.now) }
-{
-    if told < 0 {
-        return 0;
-    }
-    at_most(told as usize, part.len())
-}
-
 // Whether a write that told this took the whole part.
-fn took_all(told: isize, part: &[u8]) -> bool
+fn took_all(told: Option<usize>, part: &[u8]) -> bool
     ensures { result ≡ took_all told (length part.now) }
 {
-    count(told, part) == part.len()
+    told == Some(part.len())
 }
 
-// What a write told: how many bytes it took, or the number of a failure, which is told.
-fn told_by(answer: io::Result<usize>, errors: Stderr, name: &[u8], part: &[u8]) -> isize
-    requires { WritesAtMost answer part.now }
-{
+// What a write told: how many bytes it took, or none where it failed, which is told.
+fn told_by(answer: io::Result<usize>, errors: Stderr, name: &[u8]) -> Option<usize> {
     match answer {
-        Ok(n) => n as isize,
+        Ok(n) => Some(n),
         Err(why) => {
             message::failed_with(errors, name, b"logging stops", why);
-            FAILED
+            None
         }
     }
 }
 
-// Tells that a write took only a part; of one that failed that was told.
-fn tell_failure(told: isize, errors: Stderr, name: &[u8]) {
-    if told < 0 {
-        return;
-    }
+// Tells that a write took only a part.
+fn tell_part(errors: Stderr, name: &[u8]) {
     message::tell_about(
         errors,
         name,
@@ -94,13 +75,13 @@ impl Appended {
         self.whole
     }
 
-    // The same with this part handed on, by what its write told.
-    fn after_write(self, told: isize, errors: Stderr, name: &[u8], part: &[u8]) -> Appended
+    // The same with this part handed on, by what its write told. Of a write that failed that was told.
+    fn after_write(self, told: Option<usize>, errors: Stderr, name: &[u8], part: &[u8]) -> Appended
         ensures { AfterWrite told part.now self result }
     {
         let is_whole = took_all(told, part);
-        if !is_whole {
-            tell_failure(told, errors, name);
+        if told.is_some() && !is_whole {
+            tell_part(errors, name);
         }
         Appended {
             bytes: count_on(self.bytes, part.len()),
@@ -122,7 +103,7 @@ impl Appended {
         requires { part.now ≡ take count records.now }
         ensures { HandsOn (take count records.now) self result }
     {
-        let told = told_by(write_once(to, part), errors, name, part);
+        let told = told_by(write_once(to, part), errors, name);
         self.after_write(told, errors, name, part)
     }
 
@@ -138,10 +119,10 @@ impl Appended {
     ) -> Appended
         ensures { AppendsFirst waiting records.now self result }
     {
-        let count = at_most(waiting, records.len());
+        let count = waiting.min(records.len());
         if count == 0 {
             return self;
         }
-        self.write(to, errors, name, records, count, &records[0..count])
+        self.write(to, errors, name, records, count, &records[..count])
     }
 }

@@ -1,6 +1,6 @@
 // The file that records are appended to.
-ghost use Rattle.std.specs.Prelude.{true, false};
-ghost use Rattle.record_log.specs.Appending.{Begins, Waits, Appends};
+ghost use Rattle.std.specs.Prelude.{◌≡◌, true, false, is_some};
+ghost use Rattle.record_log.specs.Appending.{is_open, Begins, Waits, Appends};
 
 use super::appended::Appended;
 use std::fs::File;
@@ -11,8 +11,6 @@ use std::io::Stderr;
 pub struct Log {
     // Where records are appended, none where the log is not open.
     file: Option<File>,
-    // Whether records are appended to it.
-    pub is_open: bool,
     // The bytes of records that wait.
     pub waiting: usize,
     // What was handed to it.
@@ -20,40 +18,43 @@ pub struct Log {
 }
 
 impl Log {
+    // The log in this file, if there is one; nothing was appended.
+    fn begun(file: Option<File>) -> Log
+        ensures { Begins (is_some file) result }
+    {
+        Log {
+            file,
+            waiting: 0,
+            appended: Appended::new(),
+        }
+    }
+
     // No log: nothing is appended.
     pub fn none() -> Log
         ensures { Begins false result }
     {
-        Log {
-            file: None,
-            is_open: false,
-            waiting: 0,
-            appended: Appended::new(),
-        }
+        Log::begun(None)
     }
 
     // The log in this file, which is open for appending, and to which nothing was appended.
     pub fn on(file: File) -> Log
         ensures { Begins true result }
     {
-        Log {
-            file: Some(file),
-            is_open: true,
-            waiting: 0,
-            appended: Appended::new(),
-        }
+        Log::begun(Some(file))
+    }
+
+    // Whether records are appended to it.
+    pub fn is_open(&self) -> bool
+        ensures { result ≡ is_open self.now }
+    {
+        self.file.is_some()
     }
 
     // The same log with so many bytes that wait.
     pub fn with_waiting(self, waiting: usize) -> Log
         ensures { Waits waiting self result }
     {
-        Log {
-            file: self.file,
-            is_open: self.is_open,
-            waiting,
-            appended: self.appended,
-        }
+        Log { waiting, ..self }
     }
 
     // Appends the records that wait. After a write that fails or takes only a part, which is told, nothing is appended any
@@ -65,17 +66,8 @@ impl Log {
         let before = self.appended;
         let appended = before.append(file.as_ref(), errors, name, records, self.waiting);
         let is_whole = appended.is_whole();
-        if !is_whole {
-            return Log {
-                file: None,
-                is_open: false,
-                waiting: 0,
-                appended,
-            };
-        }
         Log {
-            file,
-            is_open: self.is_open,
+            file: if is_whole { file } else { None },
             waiting: 0,
             appended,
         }

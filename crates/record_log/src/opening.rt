@@ -1,8 +1,7 @@
 // The log that records are appended to. A file is looked at before it is opened for that, so that no table is taken for a log.
-ghost use Rattle.std.specs.Prelude.{ℕ, ◌%◌, ◌≡◌, true, List, [], length};
+ghost use Rattle.std.specs.Prelude.{ℕ, ◌%◌, ◌≡◌, ◌≤◌, true, List, [], length, take, IfSome};
 ghost use Rattle.record.specs.Layout.{record_length};
-ghost use Rattle.streams.specs.Contract.{LoadedIn};
-ghost use Rattle.record_log.specs.Recognised.{takes_records};
+ghost use Rattle.record_log.specs.Recognised.{seen_in, takes_records};
 ghost use Rattle.record_log.specs.Contract.{Looked, LooksOn};
 
 use super::file::Log;
@@ -11,9 +10,9 @@ use std::fs::File;
 use std::io;
 use std::io::{ErrorKind, Stderr};
 use std::rt::Files;
-use streams::buffers::large_buffer;
+use streams::buffers::zeros;
 use streams::identity::{Identity, identify, identify_input, is_special};
-use streams::input::{Input, Loaded, read_all};
+use streams::input::{Input, read_all};
 use streams::message;
 use streams::name::{create, open_append, open_read};
 use streams::standard::Streams;
@@ -27,8 +26,6 @@ struct Looking {
     seen: Seen,
     // Whether there is more to read.
     going: bool,
-    // Whether a read failed, which was told.
-    failed: bool,
 }
 
 impl Looking {
@@ -39,89 +36,69 @@ impl Looking {
         Looking {
             seen: Seen::nothing(),
             going: true,
-            failed: false,
+        }
+    }
+
+    // The first n bytes of a block, which were read, are looked at; there is more to read where they fill it.
+    fn on(self, block: &[u8], n: usize) -> Looking
+        requires read { n ≤ length block.now }
+        requires whole { length block.now % record_length ≡ 0 }
+        requires going { self.going ≡ true }
+        ensures { LooksOn (take n block.now) (length block.now) self result }
+    {
+        Looking {
+            seen: self.seen.with_block(&block[..n]),
+            going: n == block.len(),
         }
     }
 }
 
-// What a read told is looked at: all its bytes, and there is more to read where they fill the block.
-fn look_at(loaded: Loaded, block: &[u8], looking: Looking) -> Looking
-    requires { LoadedIn block.now loaded × (length block.now % record_length ≡ 0) × (looking.going ≡ true) }
-    ensures { LooksOn loaded block.now looking result }
-{
-    let seen = looking.seen;
-    match loaded {
-        Loaded::Failed => Looking {
-            seen,
-            going: false,
-            failed: true,
-        },
-        Loaded::Bytes(n) => Looking {
-            seen: seen.with_block(&block[0..n]),
-            going: n == block.len(),
-            failed: false,
-        },
-    }
-}
-
-// Nothing says that the file ends, so the turns are counted down from a number that no run uses up.
-fn look_through(input: Input<'_>, block: &mut [u8]) -> Looking
+// What is seen in the bytes of a file; none where a read failed, which was told. Nothing says that the file ends, so the
+// turns are counted up to a number that no run comes to.
+fn look_through(input: Input<'_>, block: &mut [u8]) -> Option<Seen>
     requires { length block.old % record_length ≡ 0 }
-    ensures { (bytes : List ℕ) × Looked bytes result }
+    ensures { IfSome result (λ seen. (bytes : List ℕ) × (seen ≡ seen_in bytes)) }
 {
     let mut looking = Looking::start();
-    let mut turns = u64::MAX;
-    while turns > 0 && looking.going {
-        let loaded = read_all(input, block);
-        looking = look_at(loaded, block, looking);
-        turns -= 1;
+    for _ in 0..u64::MAX {
+        if !looking.going {
+            break;
+        }
+        let n = read_all(input, block)?;
+        looking = looking.on(block, n);
     }
-    looking
+    Some(looking.seen)
 }
 
 // Whether records may follow what was found; if not, that is told.
+#[tactic(auto, unfolding(crate::specs::Recognised::takes_records))]
 fn is_welcome(kind: Kind, errors: Stderr, name: &[u8]) -> bool
     ensures { result ≡ takes_records kind }
 {
-    match kind {
-        Kind::Log => true,
+    let words: &[u8] = match kind {
+        Kind::Log => return true,
         Kind::Text => {
-            message::tell_about(
-                errors,
-                name,
-                b"a table may have every byte of it, so it is not appended to; the log comes before the table, --log LOG TABLE; name another log",
-            );
-            false
+            b"a table may have every byte of it, so it is not appended to; the log comes before the table, --log LOG TABLE; name another log"
         }
         Kind::Other => {
-            message::tell_about(
-                errors,
-                name,
-                b"it holds something other than records, so it is not appended to; name another log",
-            );
-            false
+            b"it holds something other than records, so it is not appended to; name another log"
         }
         Kind::Cut => {
-            message::tell_about(
-                errors,
-                name,
-                b"its length is no multiple of 8, so it is not appended to; name another log, or cut what is left of its last record",
-            );
-            false
+            b"its length is no multiple of 8, so it is not appended to; name another log, or cut what is left of its last record"
         }
-    }
+    };
+    message::tell_about(errors, name, words);
+    false
 }
 
 // Whether the bytes of an open file make it a log; if not, that is told.
 fn has_records(streams: Streams, file: &File, name: &[u8]) -> bool {
-    let mut block = large_buffer();
+    let mut block = zeros::<65536>();
     let input = Input::of_file(streams, file, name, NO_LOG);
-    let looking = look_through(input, &mut block);
-    if looking.failed {
-        return false;
+    match look_through(input, &mut block) {
+        Some(seen) => is_welcome(seen.kind(), streams.errors, name),
+        None => false,
     }
-    let seen = looking.seen;
-    is_welcome(seen.kind(), streams.errors, name)
 }
 
 // Whether records may be appended to this open file while the table is read; if not, that is told.
@@ -155,26 +132,16 @@ fn may_be_log<R: Files>(
 // Makes the file of this name, and opens it for reading; one that was made meanwhile is opened.
 fn make<R: Files<File = File>>(rt: &R, name: &[u8]) -> io::Result<File> {
     match create(rt, name) {
-        Ok(_) => open_read(rt, name),
-        Err(why) => {
-            if why.kind() != ErrorKind::AlreadyExists {
-                return Err(why);
-            }
-            open_read(rt, name)
-        }
+        Err(why) if why.kind() != ErrorKind::AlreadyExists => Err(why),
+        _ => open_read(rt, name),
     }
 }
 
 // The file of this name, for reading, which is made where it is missing.
 fn open_or_make<R: Files<File = File>>(rt: &R, name: &[u8]) -> io::Result<File> {
     match open_read(rt, name) {
-        Ok(file) => Ok(file),
-        Err(why) => {
-            if why.kind() != ErrorKind::NotFound {
-                return Err(why);
-            }
-            make(rt, name)
-        }
+        Err(why) if why.kind() == ErrorKind::NotFound => make(rt, name),
+        opened => opened,
     }
 }
 
@@ -197,22 +164,18 @@ fn open_again<R: Files<File = File>>(
 {
     match open_append(rt, name) {
         Ok(file) => {
-            let opened = identify(&file);
-            if !opened.is_same(looked_at) {
-                message::tell_about(
-                    errors,
-                    name,
-                    b"another file has its name now, so it is not appended to; try again",
-                );
-                return Log::none();
+            if identify(&file).is_same(looked_at) {
+                return Log::on(file);
             }
-            Log::on(file)
+            message::tell_about(
+                errors,
+                name,
+                b"another file has its name now, so it is not appended to; try again",
+            );
         }
-        Err(why) => {
-            message::failed_with(errors, name, NO_LOG, why);
-            Log::none()
-        }
+        Err(why) => message::failed_with(errors, name, NO_LOG, why),
     }
+    Log::none()
 }
 
 // The log of this open file, if records may be appended to it.

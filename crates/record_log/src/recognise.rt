@@ -1,6 +1,6 @@
 // Whether the bytes of a file make it a log, block by block.
+ghost use Rattle.std.specs.List.{list_all};
 ghost use Rattle.std.specs.Prelude.{◌≡◌, []};
-ghost use Rattle.text.specs.Lists.{all};
 ghost use Rattle.line.specs.Refused.{accepted};
 ghost use Rattle.figures.specs.Figures.{records_of};
 ghost use Rattle.record_log.specs.Recognised.{is_record, seen_in, kind_seen};
@@ -9,7 +9,6 @@ ghost use Rattle.record_log.specs.Contract.{Looks};
 use line::refused::refused_byte;
 use record::Record;
 use record::read::read_record;
-use text::slice::Found;
 
 // What the bytes of a file make of it.
 #[derive(Clone, Copy)]
@@ -38,40 +37,36 @@ pub struct Seen {
 }
 
 // Whether these bytes are a record.
+#[tactic(auto, unfolding(crate::specs::Recognised::is_record))]
 fn is_record(bytes: &[u8]) -> bool
     ensures { result ≡ is_record bytes.now }
 {
-    let record = read_record(bytes);
-    record.number() == 0
+    read_record(bytes).is_ok()
 }
 
 // Whether every whole eight bytes of a block are a record.
 fn all_records(block: &[u8]) -> bool
-    ensures { result ≡ all is_record (records_of block.now) }
+    ensures { result ≡ list_all is_record (records_of block.now) }
 {
-    let mut at = 0;
-    while block.len() - at >= Record::BYTES {
-        let end = at + Record::BYTES;
-        if !is_record(&block[at..end]) {
+    for bytes in block.chunks_exact(Record::BYTES) {
+        if !is_record(bytes) {
             return false;
         }
-        at = end;
     }
     true
 }
 
 // Whether a table may have every byte of a block.
+#[tactic(auto, using(crate::proofs::RecogniseLaws::text_found))]
 fn is_text(block: &[u8]) -> bool
-    ensures { result ≡ all accepted block.now }
+    ensures { result ≡ list_all accepted block.now }
 {
-    match refused_byte(block) {
-        Found::At(_) => false,
-        Found::Nothing => true,
-    }
+    refused_byte(block).is_none()
 }
 
 impl Seen {
     // Of no byte.
+    #[tactic(auto, unfolding(crate::specs::Recognised::seen_in, figures::specs::Figures::records_of, figures::specs::Figures::records_in))]
     pub fn nothing() -> Seen
         ensures { result ≡ seen_in [] }
     {
@@ -88,14 +83,15 @@ impl Seen {
         ensures { Looks block.now self result }
     {
         Seen {
-            empty: self.empty & (block.len() == 0),
-            textual: self.textual & is_text(block),
-            readable: self.readable & all_records(block),
+            empty: self.empty && block.is_empty(),
+            textual: self.textual && is_text(block),
+            readable: self.readable && all_records(block),
             whole: block.len() % Record::BYTES == 0,
         }
     }
 
     // What they make of the file.
+    #[tactic(auto, unfolding(crate::specs::Recognised::kind_seen))]
     pub fn kind(self) -> Kind
         ensures { result ≡ kind_seen self }
     {

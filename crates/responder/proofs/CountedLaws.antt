@@ -11,7 +11,7 @@ use Rattle.streams.specs.Contract.{counted_on, Prints}
 use Rattle.streams.proofs.CountLaws.{counted_none, counted_twice}
 use Rattle.streams.specs.declared.standard_output.Output.{Output}
 use Rattle.record_log.specs.declared.file.Log.{Log}
-use Rattle.record_log.specs.Appending.{Waits, Appends}
+use Rattle.record_log.specs.Appending.{is_open, Waits, Appends}
 use Rattle.responder.specs.declared.lines.Run.{Run}
 use Rattle.responder.specs.Contract.{Logs, Counted, halted}
 
@@ -30,7 +30,7 @@ logs_first {before} {due} {after} records part count e w a =
     let t : take due.waiting part ≡ take count records = ap (λ (n : ℕ). take n part) w.waits ∙ ap (take count) e ∙ take-take count count records (omega arith) in
     record {
       bytes = a.appended.bytes ∙ ap (λ (x : List ℕ). counted_on due.appended.bytes (length x)) t ∙ ap (λ (x : ℕ). counted_on x (length (take count records))) (ap (λ x. x.bytes) w.appended);
-      is_open = a.is_open ∙ ap (λ (b : Bool). cond b after.appended.whole false) w.is_open;
+      opened = a.opened ∙ ap (λ (b : Bool). cond b after.appended.whole false) w.opened;
       whole = λ h. sym (ap (λ x. x.whole) w.appended) ∙ a.appended.whole h;
     }
 
@@ -54,8 +54,8 @@ pub handed_both : {answers records : List ℕ} {before after : Run} → Prints a
 handed_both {answers} {records} {before} {after} p l = record {
   printed = p.handed;
   appended = l.bytes;
-  opened = λ e. was_open before.log.is_open after.log.appended.whole (sym l.is_open ∙ e);
-  closed = λ e f. sym (l.is_open ∙ ap (λ (b : Bool). cond b after.log.appended.whole false) e) ∙ f;
+  opened = λ e. was_open (is_open before.log) after.log.appended.whole (sym l.opened ∙ e);
+  closed = λ e f. sym (l.opened ∙ ap (λ (b : Bool). cond b after.log.appended.whole false) e) ∙ f;
   whole = l.whole;
 }
 
@@ -65,11 +65,11 @@ handed_on {answers} {records} {more} {others} {first} {mid} {last} h k = record 
   printed = counted_on_law first.output.handed mid.output.handed last.output.handed answers more h.printed k.printed;
   appended = counted_on_law first.log.appended.bytes mid.log.appended.bytes last.log.appended.bytes records others h.appended k.appended;
   opened = λ e. h.opened (k.opened e);
-  closed = λ e f. go mid.log.is_open refl e f;
+  closed = λ e f. go (is_open mid.log) refl e f;
   whole = λ e. h.whole (k.whole e);
 }
   where
-    go : (b : Bool) → mid.log.is_open ≡ b → first.log.is_open ≡ true → last.log.is_open ≡ false → last.log.appended.whole ≡ false
+    go : (b : Bool) → is_open mid.log ≡ b → is_open first.log ≡ true → is_open last.log ≡ false → last.log.appended.whole ≡ false
     go true m e f = k.closed m f
     go false m e f = false_of last.log.appended.whole (λ t. not_both (k.whole t) (h.closed e m))
       where

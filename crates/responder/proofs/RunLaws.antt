@@ -1,4 +1,5 @@
 -- Laws of a whole run: block after block it answers the lines of all that was read. Assumes nothing.
+use Rattle.std.specs.Prelude.{None, Option, Some}
 use mathlib.Core.Path.{◌≡◌, refl, sym, ap, ◌∙◌, subst}
 use mathlib.Core.Bool.{true}
 use mathlib.Core.List.{List, [], ◌++◌, append-nil}
@@ -7,8 +8,7 @@ use Prim.Native.Nat.{ℕ, zero, suc, ◌<◌}
 use native.Mathlib.Omega.{arith}
 use lib.ListN.{take}
 use Rattle.console.specs.QuestionLine.{line_limit}
-use Rattle.streams.specs.declared.input.Loaded.{Loaded}
-use Rattle.streams.specs.declared.input.Loaded.TheVariants.{Bytes, Failed}
+use Rattle.record_log.specs.Appending.{is_open}
 use Rattle.responder.specs.declared.source.Source.{Source}
 use Rattle.responder.specs.declared.lines.Run.{Run}
 use Rattle.responder.specs.Responses.{ended_lines, input_lines, responses, records_of}
@@ -23,7 +23,7 @@ module _ (source : Source) (file : List ℕ) (size : ℕ) where
   so_far_none h = record { input = []; printed = []; appended = []; series = begun; handed = h }
 
   -- a buffer's length by another name
-  pub serves_sized : {n : ℕ} {before after : Run} {old new : Stand} {loaded : Loaded} {block : List ℕ} → n ≡ size → Serves source file n loaded block old before new after → Serves source file size loaded block old before new after
+  pub serves_sized : {n : ℕ} {before after : Run} {old new : Stand} {loaded : Option ℕ} {block : List ℕ} → n ≡ size → Serves source file n loaded block old before new after → Serves source file size loaded block old before new after
   serves_sized {n} {before} {after} {old} {new} {loaded} {block} e v = subst (λ (x : ℕ). Serves source file x loaded block old before new after) e v
 
   module _ (room : line_limit < size) where
@@ -64,12 +64,12 @@ module _ (source : Source) (file : List ℕ) (size : ℕ) where
     }
 
     -- what a read told was served
-    pub so_far_serves : {before mid after : Run} {old new : Stand} (loaded : Loaded) (block : List ℕ) → Serves source file size loaded block old mid new after
+    pub so_far_serves : {before mid after : Run} {old new : Stand} (loaded : Option ℕ) (block : List ℕ) → Serves source file size loaded block old mid new after
         → old.answers ≡ [] → old.records ≡ [] → new.answers ≡ [] → new.records ≡ [] → SoFar source file size before old mid
         → (after.going ≡ true → SoFar source file size before new after) × Answers source file before after
-    so_far_serves (Bytes zero) block v a r b q s = let f = v.finishes refl in (not_going f.stops, so_far_finishes s f)
-    so_far_serves (Bytes (suc n)) block v a r b q s = let t = so_far_follows (take (suc n) block) s (v.follows (suc n) refl (omega arith)) in ((λ e. t), so_far_answers b q t)
-    so_far_serves {before} {mid} {after} Failed block v a r b q s =
+    so_far_serves (Some zero) block v a r b q s = let f = v.finishes refl in (not_going f.stops, so_far_finishes s f)
+    so_far_serves (Some (suc n)) block v a r b q s = let t = so_far_follows (take (suc n) block) s (v.follows (suc n) refl (omega arith)) in ((λ e. t), so_far_answers b q t)
+    so_far_serves {before} {mid} {after} None block v a r b q s =
         let e = v.fails refl in
         let t = so_far_answers a r s in (
           not_going (ap (λ (x : Run). x.going) e),
@@ -78,7 +78,7 @@ module _ (source : Source) (file : List ℕ) (size : ℕ) where
             lines = t.lines;
             all_or_ended = t.all_or_ended;
             appended = t.appended;
-            records = λ g. t.records (sym (ap (λ (x : Run). x.log.is_open) e) ∙ g);
+            records = λ g. t.records (sym (ap (λ (x : Run). is_open x.log) e) ∙ g);
             handed = handed_halted e t.handed;
           },
         )

@@ -1,8 +1,6 @@
 -- What the contracts of the readers and of the writer say.
-use Rattle.std.specs.Prelude.{◌≡◌, Bool, true, ◌&&◌, List, ℕ, ◌+◌, ◌/◌, ◌%◌, ◌≤◌, min, eqb, length, take}
+use Rattle.std.specs.Prelude.{◌≡◌, Bool, true, ◌&&◌, List, ℕ, ◌+◌, ◌/◌, ◌%◌, ◌≤◌, min, eqb, length, take, None, Option, Some}
 use Rattle.streams.specs.declared.identity.Identity.{Identity}
-use Rattle.streams.specs.declared.input.Loaded.{Loaded}
-use Rattle.streams.specs.declared.input.Loaded.TheVariants.{Bytes, Failed}
 use Rattle.streams.specs.declared.standard_output.Output.{Output}
 
 -- a count of first bytes: they are there, and are as many
@@ -10,12 +8,12 @@ abbrev pub IsPrefixLen : ℕ → List ℕ → Type 0
 IsPrefixLen n xs = (n ≤ length xs) × (n ≡ length (take n xs))
 
 -- how many bytes are told
-abbrev pub bytes_told : Loaded → ℕ
-bytes_told (Bytes n) = n
-bytes_told Failed = 0
+abbrev pub bytes_told : Option ℕ → ℕ
+bytes_told (Some n) = n
+bytes_told None = 0
 
 -- as many bytes as are told stand at the buffer's beginning
-pub record LoadedIn (buffer : List ℕ) (r : Loaded) : Type 0 where
+pub record LoadedIn (buffer : List ℕ) (r : Option ℕ) : Type 0 where
   pub counted : IsPrefixLen (bytes_told r) buffer
 
 -- a count with so many more, up to the largest number of 64 bits

@@ -44,8 +44,7 @@ impl Identity {
     pub fn is_same(self, other: Identity) -> bool
         ensures { result ≡ same_file self other }
     {
-        let is_there = (self.device == other.device) & (self.number == other.number);
-        self.regular & other.regular & is_there
+        self.regular && other.regular && self.device == other.device && self.number == other.number
     }
 }
 
@@ -64,13 +63,13 @@ fn is_regular(status: &Metadata) -> bool {
 
 // What the system answered of a file; one that it tells nothing of is not regular.
 fn identity_in(answered: io::Result<Metadata>) -> Identity {
-    match answered {
-        Ok(status) => Identity {
-            device: status.dev(),
-            number: status.ino(),
-            regular: is_regular(&status),
-        },
-        Err(_) => Identity::unknown(),
+    let Ok(status) = answered else {
+        return Identity::unknown();
+    };
+    Identity {
+        device: status.dev(),
+        number: status.ino(),
+        regular: is_regular(&status),
     }
 }
 
@@ -89,8 +88,5 @@ pub fn is_special<R: Files>(rt: &R, name: &[u8]) -> bool {
     let Ok(path) = path_of(name) else {
         return false;
     };
-    match fs::metadata(rt, path) {
-        Ok(status) => !is_regular(&status),
-        Err(_) => false,
-    }
+    fs::metadata(rt, path).is_ok_and(|status| !is_regular(&status))
 }

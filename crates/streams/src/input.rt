@@ -15,13 +15,6 @@ const TOO_LONG: i32 = 36;
 
 const NOT_THERE: i32 = 22;
 
-// How many bytes were put at the beginning of a lent buffer.
-#[derive(Clone, Copy)]
-pub enum Loaded {
-    Bytes(usize),
-    Failed,
-}
-
 // What is read from.
 #[derive(Clone, Copy)]
 enum Origin<'a> {
@@ -71,7 +64,7 @@ impl<'a> Input<'a> {
     }
 
     fn tell(self, why: Error) {
-        if self.words.len() == 0 {
+        if self.words.is_empty() {
             message::failed(self.errors, self.name, why);
             return;
         }
@@ -80,33 +73,32 @@ impl<'a> Input<'a> {
 }
 
 // Reads once; no byte where the file ends. A failure is told.
-pub fn read_some(input: Input<'_>, out: &mut [u8]) -> Loaded
+pub fn read_some(input: Input<'_>, out: &mut [u8]) -> Option<usize>
     ensures { LoadedIn out.new result }
 {
     match input.read(out) {
-        Ok(n) => Loaded::Bytes(n),
+        Ok(n) => Some(n),
         Err(why) => {
             input.tell(why);
-            Loaded::Failed
+            None
         }
     }
 }
 
 // Reads to the file's end, or until the buffer is full. A failure is told.
-pub fn read_all(input: Input<'_>, out: &mut [u8]) -> Loaded
+pub fn read_all(input: Input<'_>, out: &mut [u8]) -> Option<usize>
     ensures { LoadedIn out.new result }
 {
     let mut n = 0;
+    // Stays a while: the step differs from turn to turn.
     while n < out.len() {
-        let Loaded::Bytes(more) = read_some(input, &mut out[n..]) else {
-            return Loaded::Failed;
-        };
+        let more = read_some(input, &mut out[n..])?;
         if more == 0 {
-            return Loaded::Bytes(n);
+            return Some(n);
         }
         n += more;
     }
-    Loaded::Bytes(n)
+    Some(n)
 }
 
 // Why an argument is no name of a file.
@@ -118,14 +110,20 @@ fn no_name(why: FillError) -> Error {
 }
 
 // The name that an argument gives to a file; one that is longer than the buffer is told, by what it is the name of.
-pub fn load_name<R: Env>(rt: &R, errors: Stderr, i: usize, what: &[u8], out: &mut [u8]) -> Loaded
+pub fn load_name<R: Env>(
+    rt: &R,
+    errors: Stderr,
+    i: usize,
+    what: &[u8],
+    out: &mut [u8],
+) -> Option<usize>
     ensures { LoadedIn out.new result }
 {
     match rt.arg(i, out) {
-        Ok(n) => Loaded::Bytes(n),
+        Ok(n) => Some(n),
         Err(why) => {
             message::failed(errors, what, no_name(why));
-            Loaded::Failed
+            None
         }
     }
 }

@@ -1,11 +1,15 @@
 // The name of a file, and the file opened by it.
+ghost use Rattle.std.specs.Prelude.{◌≡◌, IfOk};
+
 use std::fs::{File, OpenOptions};
 use std::io;
 use std::io::{Error, ErrorKind};
 use std::rt::Files;
 
 // The name as the library takes it: its bytes, which have to be UTF-8.
-pub fn path_of(name: &[u8]) -> io::Result<&str> {
+pub fn path_of(name: &[u8]) -> io::Result<&str>
+    ensures { IfOk result (λ path. path.now ≡ name.now) }
+{
     match std::str::from_utf8(name) {
         Ok(path) => Ok(path),
         Err(_) => Err(Error::from(ErrorKind::InvalidFilename)),

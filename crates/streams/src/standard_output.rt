@@ -21,11 +21,7 @@ pub struct Output {
 pub fn count_on(count: u64, more: usize) -> u64
     ensures { result ≡ counted_on count more }
 {
-    let n = more as u64;
-    if n > u64::MAX - count {
-        return u64::MAX;
-    }
-    count + n
+    count.saturating_add(more as u64)
 }
 
 // Whether all bytes were written to standard output; if not, that is told. That they are written is trusted: it is the one
@@ -66,16 +62,14 @@ impl Output {
     {
         let is_written = write(self.streams, bytes);
         Output {
-            streams: self.streams,
             handed: count_on(self.handed, bytes.len()),
             whole: self.whole && is_written,
+            ..self
         }
     }
 }
 
 // Whether all bytes were written; if not, that was told.
 pub fn print(streams: Streams, bytes: &[u8]) -> bool {
-    let fresh = Output::new(streams);
-    let printed = fresh.print(bytes);
-    printed.whole
+    Output::new(streams).print(bytes).is_whole()
 }

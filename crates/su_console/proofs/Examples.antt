@@ -1,14 +1,13 @@
 -- The definitions computed: what question lines ask, what is printed for each kind of answer, and for a file that is checked. Assumes nothing.
+use Rattle.std.specs.Prelude.{None, Some}
 use mathlib.Core.Path.{◌≡◌, refl}
 use mathlib.Core.List.{List, [], ◌∷◌, ◌++◌, map, flat_map}
-use mathlib.Core.Option.{none, some}
 use Prim.Native.Nat.{ℕ}
 use lib.ListN.{replicate}
 use Rattle.text.specs.Bytes.{bytes}
 use Rattle.text.specs.Class.{class_of, blank, letter, digit, printable}
 use Rattle.text.specs.Contract.{lead}
-use Rattle.text.specs.Lists.{any, count, has, split_at}
-use Rattle.text.specs.Slice.{same}
+use Rattle.text.specs.Lists.{count, has, split_at}
 use Rattle.line.specs.Refused.{accepted}
 use Rattle.suauth.specs.declared.Action.TheVariants.{Deny, NoPassword, OwnPassword}
 use Rattle.suauth.specs.declared.SuAnswer.TheVariants.{NoRule, MalformedQuestion, LongFile, RefusedByte, CutShort, MalformedLine}
@@ -38,15 +37,15 @@ lines =
     ∷ []
 
 pub lines_ask : map su_asked_in lines ≡
-    some (asking (bytes "root") (bytes "chris") [])
-    ∷ some (asking (bytes "root") (bytes "ann") (bytes "wheel" ++ 0 ∷ []))
-    ∷ some (asking (bytes "root") (bytes "ann") (bytes "a" ++ 0 ∷ bytes "-" ++ 0 ∷ bytes "b" ++ 0 ∷ []))
-    ∷ some (asking (bytes "root") (bytes "ann") (0 ∷ bytes "a" ++ 0 ∷ []))
-    ∷ some (asking (bytes "root") [] [])
-    ∷ some (asking (bytes "root") (bytes "ann") (0 ∷ []))
-    ∷ some (asking [] [] (0 ∷ []))
+    Some (asking (bytes "root") (bytes "chris") [])
+    ∷ Some (asking (bytes "root") (bytes "ann") (bytes "wheel" ++ 0 ∷ []))
+    ∷ Some (asking (bytes "root") (bytes "ann") (bytes "a" ++ 0 ∷ bytes "-" ++ 0 ∷ bytes "b" ++ 0 ∷ []))
+    ∷ Some (asking (bytes "root") (bytes "ann") (0 ∷ bytes "a" ++ 0 ∷ []))
+    ∷ Some (asking (bytes "root") [] [])
+    ∷ Some (asking (bytes "root") (bytes "ann") (0 ∷ []))
+    ∷ Some (asking [] [] (0 ∷ []))
     ∷ []
-unfolding lines flat_map has any split_at same groups_in good_line su_asked_from su_asked_in
+unfolding lines flat_map has split_at groups_in good_line su_asked_from su_asked_in
 lines_ask = refl
 
 -- lines that are not of the form
@@ -61,8 +60,8 @@ malformed =
     ∷ (bytes "root ann -" ++ 0 ∷ [])
     ∷ []
 
-pub malformed_ask_nothing : map su_asked_in malformed ≡ replicate 7 none
-unfolding malformed flat_map has any split_at same groups_in good_line su_asked_from su_asked_in
+pub malformed_ask_nothing : map su_asked_in malformed ≡ replicate 7 None
+unfolding malformed flat_map has split_at groups_in good_line su_asked_from su_asked_in
 malformed_ask_nothing = refl
 
 -- ---- what is printed

@@ -1,10 +1,10 @@
 -- The laws of what is printed for a file that is checked, by the answer. Assumes nothing.
+use Rattle.std.specs.Prelude.{Option}
 use mathlib.Core.Path.{◌≡◌, refl}
 use mathlib.Core.List.{List, [], ◌∷◌}
 use Prim.Native.Nat.{ℕ}
 use Rattle.text.specs.Bytes.{bytes}
 use Rattle.text.specs.Contract.{Wrote}
-use Rattle.text.specs.declared.buffer.Filled.{Filled}
 use Rattle.suauth.specs.declared.SuAnswer.{SuAnswer}
 use Rattle.suauth.specs.declared.SuAnswer.TheVariants.{Deny, NoPassword, OwnPassword, NoRule, MalformedQuestion, LongFile, RefusedByte, CutShort, MalformedLine}
 use Rattle.suauth.specs.contracts.SuAnswer.{the_type}
@@ -16,7 +16,7 @@ use types.Run.{OneOf, miss}
 use denote.Enum.Declared.{tag_of}
 
 -- the name, and what stands behind it
-pub explained_by : {old mid new ys : List ℕ} {before r : Filled} (name t : List ℕ) (a : SuAnswer) → Wrote old mid 0 (shown_name name) before → WroteAfter before mid new ys r → su_finding t a ≡ ys → Wrote old new 0 (su_explained name t a) r
+pub explained_by : {old mid new ys : List ℕ} {before r : Option ℕ} (name t : List ℕ) (a : SuAnswer) → Wrote old mid 0 (shown_name name) before → WroteAfter before mid new ys r → su_finding t a ≡ ys → Wrote old new 0 (su_explained name t a) r
 unfolding su_explained
 explained_by name t a w v e = rw e (v.behind _ _ _ w)
 

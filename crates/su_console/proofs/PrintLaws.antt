@@ -1,4 +1,5 @@
 -- The laws of the printed line: the text of each answer, and that it fits into the least buffer of a response. Assumes nothing.
+use Rattle.std.specs.Prelude.{Option}
 use mathlib.Core.Path.{◌≡◌}
 use mathlib.Core.List.{List}
 use Prim.Native.Nat.{ℕ, ◌≤◌}
@@ -6,7 +7,6 @@ use native.Mathlib.Omega.{arith}
 use lib.ListN.{length, length-append}
 use Rattle.text.specs.Bytes.{bytes}
 use Rattle.text.specs.Contract.{Wrote}
-use Rattle.text.specs.declared.buffer.Filled.{Filled}
 use Rattle.suauth.specs.declared.Action.{Action}
 use Rattle.suauth.specs.declared.Action.TheVariants.{Deny, NoPassword, OwnPassword}
 use Rattle.suauth.specs.Answer.{Told, acts, no_rule, refused}
@@ -38,7 +38,7 @@ refusal_length number place h k =
     simp length-append (omega arith)
 
 -- what is told, and the text that was put
-module _ {old new : List ℕ} {r : Filled} {t : Told} where
+module _ {old new : List ℕ} {r : Option ℕ} {t : Told} where
   pub action_printed : {a : Action} {line : ℕ} → t ≡ acts a line → line ≤ most_number → Wrote old new 0 (action_text (action_word a) line) r → Wrote old new 0 (su_printed t) r × (length (su_printed t) ≤ least_room)
   unfolding su_printed
   action_printed {a} {line} e h w = rw e (w, action_length (action_word a) line (word_length a) h)

@@ -9,10 +9,10 @@ use console::print::put_refusal;
 use line::whole::WholeText;
 use output::behind::{then_all, then_decimal};
 use suauth::SuAnswer;
-use text::buffer::{Filled, put_all};
+use text::buffer::put_all;
 
 // The line of an action, by its word.
-fn put_action(word: &[u8], line: usize, out: &mut [u8]) -> Filled
+fn put_action(word: &[u8], line: usize, out: &mut [u8]) -> Option<usize>
     ensures { Wrote out.old out.new 0 (action_text word.now line) result }
 {
     let numbered = then_decimal(put_all(out, 0, word), line, out);
@@ -20,7 +20,7 @@ fn put_action(word: &[u8], line: usize, out: &mut [u8]) -> Filled
 }
 
 // The line of an answer at the buffer's beginning; every one fits into the least buffer of a response.
-pub fn put_su_answer(answer: SuAnswer, out: &mut [u8]) -> Filled
+pub fn put_su_answer(answer: SuAnswer, out: &mut [u8]) -> Option<usize>
     ensures { Wrote out.old out.new 0 (su_printed (told_of answer)) result × (length (su_printed (told_of answer)) ≤ least_room) }
 {
     match answer {

@@ -6,8 +6,6 @@ ghost use Rattle.su_console.specs.QuestionLine.{su_asked_from, su_asked_in};
 ghost use Rattle.su_console.specs.Contract.{SuReads};
 
 use console::question_line::{QuestionLine, piece_end, put_groups};
-use text::buffer::Filled;
-use text::slice::{Found, find_byte};
 
 // What a line asks: where its pieces are.
 #[derive(Drop)]
@@ -19,30 +17,18 @@ pub struct SuPieces {
     pub groups: usize,
 }
 
-// A question line that was read.
-#[derive(Drop)]
-pub enum SuQuestionLine {
-    Asks(SuPieces),
-    Malformed,
-}
-
 // The pieces of a line that is short enough; there are three.
-fn read_pieces(line: &[u8], scratch: &mut [u8]) -> SuQuestionLine
+fn read_pieces(line: &[u8], scratch: &mut [u8]) -> Option<SuPieces>
     requires { (length line.now ≤ line_limit) × (length scratch.old ≡ line_limit) }
     ensures { SuReads line.now (su_asked_from (split_at 32 line.now)) scratch.new result }
 {
     let target = piece_end(line, 0);
     let user = piece_end(line, target + 1);
-    if user >= line.len() {
-        return SuQuestionLine::Malformed;
+    if user >= line.len() || piece_end(line, user + 1) < line.len() {
+        return None;
     }
-    if piece_end(line, user + 1) < line.len() {
-        return SuQuestionLine::Malformed;
-    }
-    let Filled::Done(groups) = put_groups(&line[user + 1..], scratch) else {
-        return SuQuestionLine::Malformed;
-    };
-    SuQuestionLine::Asks(SuPieces {
+    let groups = put_groups(&line[user + 1..], scratch)?;
+    Some(SuPieces {
         target,
         user,
         groups,
@@ -50,15 +36,14 @@ fn read_pieces(line: &[u8], scratch: &mut [u8]) -> SuQuestionLine
 }
 
 // What a line, without its newline, asks. The groups are put into the scratch.
-pub fn read_su_question_line(line: &[u8], scratch: &mut [u8; QuestionLine::BYTES]) -> SuQuestionLine
+pub fn read_su_question_line(
+    line: &[u8],
+    scratch: &mut [u8; QuestionLine::BYTES],
+) -> Option<SuPieces>
     ensures { SuReads line.now (su_asked_in line.now) scratch.new result }
 {
-    let strings = &mut scratch[..];
-    if line.len() > QuestionLine::BYTES {
-        return SuQuestionLine::Malformed;
+    if line.len() > QuestionLine::BYTES || line.contains(&0) {
+        return None;
     }
-    if let Found::At(_) = find_byte(line, 0) {
-        return SuQuestionLine::Malformed;
-    }
-    read_pieces(line, strings)
+    read_pieces(line, scratch)
 }

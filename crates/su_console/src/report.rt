@@ -5,10 +5,9 @@ ghost use Rattle.su_console.specs.Explained.{su_explained};
 use explain::report::{put_name, then_refusal, then_refusal_at};
 use output::behind::then_all;
 use suauth::SuAnswer;
-use text::buffer::Filled;
 
 // The name of the file, and that it is ok or what is wrong with it; a place past the file's end is its end.
-pub fn explain_su(name: &[u8], file: &[u8], answer: SuAnswer, out: &mut [u8]) -> Filled
+pub fn explain_su(name: &[u8], file: &[u8], answer: SuAnswer, out: &mut [u8]) -> Option<usize>
     ensures { Wrote out.old out.new 0 (su_explained name.now file.now answer) result }
 {
     let named = put_name(name, out);

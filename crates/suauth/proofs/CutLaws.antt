@@ -1,25 +1,25 @@
--- Demand 3: a cut file answers what the whole one says, "no rule", or 13 where the cut line begins. Assumes nothing.
+-- Demand 3: a cut file answers what the whole one says, "no rule", or 13 where the cut line begins.
+use Rattle.std.specs.Prelude.{Err, None, Ok, Option, Result, Some}
 use mathlib.Core.Path.{◌≡◌, refl, sym, ap, ◌∙◌}
 use mathlib.Core.Bool.{true, false}
 use mathlib.Core.List.{List}
-use mathlib.Core.Option.{Option, none, some}
 use Prim.Native.Nat.{ℕ, ◌≤◌}
 use lib.ListN.{length, take}
 use Rattle.text.proofs.Laws.{untrue}
-use Rattle.fault.specs.Fault.{Reading, fault, value}
 use Rattle.line.specs.Line.{no_byte}
 use Rattle.line.specs.Fold.{Refusal, faulty, cut}
-use Rattle.line.specs.declared.whole.Acceptance.{Acceptance}
-use Rattle.line.specs.declared.whole.Acceptance.TheVariants.{Accepted, Long, RefusedAt}
+use Rattle.line.specs.declared.whole.Unaccepted.{Unaccepted}
+use Rattle.line.specs.declared.whole.Unaccepted.TheVariants.{Long, RefusedAt}
 use Rattle.line.specs.Whole.{acceptance_of}
 use Rattle.line.proofs.FoldLaws.{cuts_told}
 use Rattle.line.proofs.WholeLaws.{accepted_cut}
 use Rattle.suauth.specs.declared.Action.{Action}
 use Rattle.suauth.specs.declared.Action.TheVariants.{Deny, NoPassword, OwnPassword}
 use Rattle.suauth.specs.declared.SuAnswer.{SuAnswer}
-use Rattle.suauth.specs.Rule.{Malformed}
+use Rattle.suauth.specs.declared.lines.Decision.{Decision}
+use Rattle.suauth.specs.declared.rule.Malformed.{Malformed}
 use Rattle.suauth.specs.Answer.{told_of, is_decision, says_no_rule, line_told}
-use Rattle.suauth.specs.Meaning.{Question, Asked, question_of, Decision, line_read, lines_give, action_by, settled, read_bytes, read_file, answer_of}
+use Rattle.suauth.specs.Meaning.{Question, Asked, question_of, line_read, lines_give, action_by, settled, read_bytes, read_file, answer_of}
 use Rattle.suauth.specs.Cut.{nothing_yet, cut_answer, CutSafe}
 use Rattle.suauth.specs.Contract.{Promised}
 use Rattle.suauth.proofs.LineLaws.{once}
@@ -27,21 +27,21 @@ use Rattle.suauth.proofs.LineLaws.{once}
 -- ---- where a file gives a decision, every check before the lines has passed
 record Asks (t : List ℕ) (a : Asked) : Type 0 where
   question : Question
-  good : question_of a ≡ some question
-  accepted : acceptance_of t ≡ Accepted
+  good : question_of a ≡ Some question
+  accepted : acceptance_of t ≡ Ok tt
 
 asked : (t : List ℕ) (a : Asked) → is_decision (answer_of t a) ≡ true → Asks t a
 unfolding answer_of is_decision told_of
 asked t a e = good (question_of a) refl e
   where
-    bytes : (q : Question) → question_of a ≡ some q → (x : Acceptance) → acceptance_of t ≡ x → is_decision (read_bytes t q x) ≡ true → Asks t a
-    bytes q g Accepted h f = record { question = q; good = g; accepted = h }
-    bytes q g Long h f = untrue f
-    bytes q g (RefusedAt p) h f = untrue f
+    bytes : (q : Question) → question_of a ≡ Some q → (x : Result Unit Unaccepted) → acceptance_of t ≡ x → is_decision (read_bytes t q x) ≡ true → Asks t a
+    bytes q g (Ok x) h f = record { question = q; good = g; accepted = h }
+    bytes q g (Err Long) h f = untrue f
+    bytes q g (Err (RefusedAt p)) h f = untrue f
 
     good : (o : Option Question) → question_of a ≡ o → is_decision (read_file t o) ≡ true → Asks t a
-    good none h f = untrue f
-    good (some q) h f = bytes q h (acceptance_of t) refl f
+    good None h f = untrue f
+    good (Some q) h f = bytes q h (acceptance_of t) refl f
 
 -- then the answer is what the lines give
 read : {t : List ℕ} {a : Asked} (w : Asks t a) → answer_of t a ≡ settled (lines_give w.question t)
@@ -65,12 +65,12 @@ says_line NoPassword l = refl
 says_line OwnPassword l = refl
 
 -- ---- the cut file, by what the whole one gives
-cut_gives : (t : List ℕ) (n : ℕ) (q : Question) → n ≤ length t → (r : Reading (Refusal Malformed) (Option Decision)) → lines_give q t ≡ r → is_decision (settled r) ≡ true → settled (lines_give q (take n t)) ≡ cut_answer t n (settled r)
+cut_gives : (t : List ℕ) (n : ℕ) (q : Question) → n ≤ length t → (r : Result (Option Decision) (Refusal Malformed)) → lines_give q t ≡ r → is_decision (settled r) ≡ true → settled (lines_give q (take n t)) ≡ cut_answer t n (settled r)
 unfolding cut_answer nothing_yet is_decision told_of
-cut_gives t n q l (fault (faulty m p)) e f = untrue f
-cut_gives t n q l (fault (cut p)) e f = untrue f
-cut_gives t n q l (value o) e f =
-    cuts_told (line_read q) (λ d. d) (λ d. d.line) (once q) settled (λ w. says_no_rule (told_of w)) (λ w. line_told (told_of w)) (λ d. says_rule d.action d.line) (λ d. says_line d.action d.line) no_byte none refl t n l o e
+cut_gives t n q l (Err (faulty m p)) e f = untrue f
+cut_gives t n q l (Err (cut p)) e f = untrue f
+cut_gives t n q l (Ok o) e f =
+    cuts_told (line_read q) (λ d. d) (λ d. d.line) (once q) settled (λ w. says_no_rule (told_of w)) (λ w. line_told (told_of w)) (λ d. says_rule d.action d.line) (λ d. says_line d.action d.line) no_byte None refl t n l o e
 
 -- for all files, questions and cuts at once
 pub cut_safe : CutSafe

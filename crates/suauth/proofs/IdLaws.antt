@@ -1,91 +1,45 @@
--- One side of a rule: what stands behind a word, and what an id tells. Assumes nothing.
-use mathlib.Core.Path.{◌≡◌, refl, sym, ap, ◌∙◌}
-use mathlib.Core.Bool.{Bool, true, false}
-use mathlib.Core.List.{List}
-use mathlib.Core.Option.{Option, none, some, bind, map}
-use Prim.Native.Nat.{ℕ, suc, ◌+◌, ◌-◌, ◌≤◌, ◌<◌}
-use native.Mathlib.Omega.{arith}
-use lib.ListN.{length, take, drop, get_or, drop_of_length-le}
+-- One side of a rule: what stands behind a word, and what an id tells.
+use Rattle.std.proofs.Common.{◌≡◌, ℕ, suc, ◌+◌, ◌<◌, Bool, true, false, not, List, ◌∷◌, None, Some, Option, length, take, drop, refl, sym, ap, ◌∙◌, arith, add-one, length-drop}
+use Rattle.std.specs.Option.{option_map, option_and_then}
+use Rattle.std.specs.Str.{bytes_eq}
+use Rattle.std.proofs.lemmas.Slice.Eq.{bytes_eq-Decides}
 use Rattle.text.specs.Bytes.{bytes}
 use Rattle.text.specs.Class.{blank}
-use Rattle.text.specs.Slice.{same, starts_with}
-use Rattle.text.specs.declared.slice.Found.{Found}
-use Rattle.text.specs.declared.slice.Found.TheVariants.{At, Nothing}
-use Rattle.text.proofs.Laws.{next, part_rest, both_no}
-use Rattle.suauth.specs.declared.names.Meant.TheVariants.{Applies}
-use Rattle.suauth.specs.Rule.{Names, those, all_except, list_in, behind_word, names_in, ids_in}
-use Rattle.suauth.specs.Meaning.{means}
-use Rattle.suauth.specs.Contract.{Behind, names_told, others_told, ids_told}
+use Rattle.text.proofs.Laws.{next}
+use Rattle.suauth.specs.Rule.{Names, those, all_except, behind_word, names_in, ids_in}
+use Rattle.suauth.specs.Meaning.{holds, means}
+use Rattle.suauth.specs.Contract.{names_told, ids_told}
 
--- ---- what stands behind a word
-module _ (w s : List ℕ) where
-  pub behind_not : starts_with w s ≡ false → Behind w s Nothing
-  unfolding behind_word
-  behind_not t = rw t
+-- one byte further
+drop_more : (n : ℕ) (s : List ℕ) (b : ℕ) (r : List ℕ) → drop n s ≡ b ∷ r → drop (suc n) s ≡ r
+drop_more n s b r e =
+    let l : n < length s = omega (arith, simp length-drop at (ap length e)) in
+    let h : drop (suc n) s ≡ drop (n + 1) s = rw add-one in
+    cc (next s n l)
 
-  pub behind_short : length s ≤ length w → Behind w s Nothing
-  unfolding behind_word
-  behind_short h = rw (drop_of_length-le s h, both_no (starts_with w s))
-
-  module _ (h : length w < length s) where
-    pub behind_other : blank (get_or s (length w) 0) ≡ false → Behind w s Nothing
-    unfolding behind_word
-    behind_other b = rw (next s (length w) h, b, both_no (starts_with w s))
-
-    pub behind_at : starts_with w s ≡ true → blank (get_or s (length w) 0) ≡ true → Behind w s (At (length w + 1))
-    unfolding behind_word
-    behind_at t b = let z : length w + 1 ≡ suc (length w) = omega arith in (omega arith, rw (t, next s (length w) h, b, z))
-
--- what a search tells, with the bytes as the code has them
-module _ (w s : List ℕ) (r : Found) (g : Behind w s r) where
-  pub behind_none : r ≡ Nothing → behind_word w s ≡ none
-  behind_none e = rw e at g
-
-  pub behind_within : {i : ℕ} → r ≡ At i → i ≤ length s
-  behind_within {i} e = let k : Behind w s (At i) = rw e at g in k.0
-
-  pub behind_some : {i : ℕ} → r ≡ At i → behind_word w s ≡ some (take (length s - i) (drop i s))
-  behind_some {i} e = let k : Behind w s (At i) = rw e at g in k.1 ∙ ap some (sym (part_rest i s))
+pub word_behind : (w s : List ℕ) (b : ℕ) (r : List ℕ) → bytes_eq (take (length w) s) w ≡ true → drop (length w) s ≡ b ∷ r → blank b ≡ true → Some r ≡ behind_word w s
+unfolding behind_word
+word_behind w s b r p d t =
+    let same : take (length w) s ≡ w = (bytes_eq-Decides _ _).0 p in
+    rw (same, (bytes_eq-Decides w w).1 refl, d, t) (ap Some (sym (drop_more (length w) s b r d)))
 
 -- ---- what an id tells
 module _ (s user : List ℕ) (groups : List (List ℕ)) (from : Bool) where
-  pub names_to : from ≡ false → names_told user groups (list_in false s) ≡ names_told user groups (names_in from s)
-  unfolding names_in
-  names_to t = rw t
-
-  module _ (t : from ≡ true) where
-    pub names_users : behind_word (bytes "GROUP") s ≡ none → names_told user groups (list_in false s) ≡ names_told user groups (names_in from s)
-    unfolding names_in
-    names_users e = rw (t, e)
-
-    pub names_groups : {r : List ℕ} → behind_word (bytes "GROUP") s ≡ some r → names_told user groups (list_in true r) ≡ names_told user groups (names_in from s)
-    unfolding names_in
-    names_groups e = rw (t, e)
-
-  as_those : (o : Option Names) → names_told user groups o ≡ ids_told user groups (map those o)
+  as_those : (o : Option Names) → names_told user groups o ≡ ids_told user groups (option_map those o)
   unfolding means
-  as_those none = refl
-  as_those (some n) = refl
+  as_those None = refl
+  as_those (Some n) = refl
 
-  as_others : (o : Option Names) → others_told (names_told user groups o) ≡ ids_told user groups (map all_except o)
+  as_others : (o : Option Names) → option_map not (names_told user groups o) ≡ ids_told user groups (option_map all_except o)
   unfolding means
-  as_others none = refl
-  as_others (some n) = refl
+  as_others None = refl
+  as_others (Some n) = refl
 
-  pub ids_all : same s (bytes "ALL") ≡ true → Applies true ≡ ids_told user groups (ids_in from s)
-  unfolding ids_in means
-  ids_all t = rw t
-
-  module _ (t : same s (bytes "ALL") ≡ false) where
-    pub ids_names : behind_word (bytes "ALL") s ≡ none → names_told user groups (names_in from s) ≡ ids_told user groups (ids_in from s)
-    unfolding ids_in bind
+  module _ (t : bytes_eq s (bytes "ALL") ≡ false) where
+    pub ids_names : option_and_then (behind_word (bytes "EXCEPT")) (behind_word (bytes "ALL") s) ≡ None → names_told user groups (names_in from s) ≡ ids_told user groups (ids_in from s)
+    unfolding ids_in
     ids_names e = rw (t, e) (as_those (names_in from s))
 
-    module _ {r : List ℕ} (e : behind_word (bytes "ALL") s ≡ some r) where
-      pub ids_no_except : behind_word (bytes "EXCEPT") r ≡ none → names_told user groups (names_in from s) ≡ ids_told user groups (ids_in from s)
-      unfolding ids_in bind
-      ids_no_except f = rw (t, e, f) (as_those (names_in from s))
-
-      pub ids_except : {u : List ℕ} → behind_word (bytes "EXCEPT") r ≡ some u → others_told (names_told user groups (names_in from u)) ≡ ids_told user groups (ids_in from s)
-      unfolding ids_in bind
-      ids_except {u} f = rw (t, e, f) (as_others (names_in from u))
+    pub ids_except : {u : List ℕ} → option_and_then (behind_word (bytes "EXCEPT")) (behind_word (bytes "ALL") s) ≡ Some u → option_map not (names_told user groups (names_in from u)) ≡ ids_told user groups (ids_in from s)
+    unfolding ids_in
+    ids_except {u} e = rw (t, e) (as_others (names_in from u))

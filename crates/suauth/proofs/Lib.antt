@@ -1,7 +1,6 @@
-pub mod NameLaws
 pub mod IdLaws
-pub mod TrimLaws
 pub mod RuleLaws
+pub mod TrimLaws
 pub mod LineLaws
 pub mod AnswerLaws
 pub mod CutLaws

@@ -1,122 +1,70 @@
--- What a line tells to a question, by its parts. Assumes nothing.
-use mathlib.Core.Path.{◌≡◌, refl, sym, ◌∙◌}
-use mathlib.Core.Bool.{Bool, true, false, ◌&&◌}
-use mathlib.Core.List.{List, [], ◌∷◌}
-use mathlib.Core.Option.{Option, none, some}
-use Prim.Native.Nat.{ℕ, ◌+◌, ◌-◌, ◌≤◌, ◌<◌}
-use native.Mathlib.Omega.{arith}
-use lib.ListN.{length, take, drop}
-use Rattle.text.specs.Bytes.{bytes}
-use Rattle.text.specs.Lists.{split_at}
-use Rattle.text.specs.Slice.{same, head_is}
-use Rattle.text.specs.Contract.{lead}
-use Rattle.text.proofs.Laws.{clash, part_rest}
-use Rattle.text.proofs.Leads.{split_at_law, split_last}
+-- What a line tells to a question, by its parts.
+use Rattle.std.proofs.Common.{◌≡◌, ℕ, List, [], ◌∷◌, Bool, true, false, ◌&&◌, ◌||◌, cond, None, Some, Option, Ok, Err, Result, refl, sym, ap}
+use Rattle.std.specs.Iterator.{AlwaysYields}
+use Rattle.std.specs.List.{slice_split}
+use Rattle.std.specs.Option.{MatchOption}
+use Rattle.std.proofs.lemmas.Iterator.{YieldsList}
+use Rattle.text.specs.Bytes.{is}
+use Rattle.text.specs.Lists.{null}
+use Rattle.text.specs.Slice.{head_is}
+use Rattle.fault.specs.Fault.{needed}
 use Rattle.suauth.specs.declared.Action.{Action}
-use Rattle.suauth.specs.declared.Action.TheVariants.{Deny, NoPassword, OwnPassword}
-use Rattle.suauth.specs.declared.names.Meant.TheVariants.{Malformed, Applies}
-use Rattle.suauth.specs.Rule.{Ids, ids_in, action_in, rule_of, parts_rule, text_rule}
-use Rattle.suauth.specs.Meaning.{Question, means, applies}
-use Rattle.suauth.specs.Contract.{ids_told, action_told, when_applies, line_tells}
-use Rattle.text.proofs.Lists.{filled}
-use Rattle.text.proofs.Splits.{split_some}
-use Rattle.suauth.specs.declared.rule.ActionRead.TheVariants.{Malformed as BadAction, Good}
-use Rattle.suauth.specs.declared.rule.LineTold.TheVariants.{Malformed as BadLine, Nothing as NoneHere}
+use Rattle.suauth.specs.declared.rule.Malformed.{Malformed}
+use Rattle.suauth.specs.Rule.{Ids, Rule, malformed, ids_in, action_in, rule_of, parts_rule, text_rule}
+use Rattle.suauth.specs.Meaning.{Question, applies}
+use Rattle.suauth.specs.Contract.{ids_told, line_tells}
 
--- ---- the action
-module _ (s : List ℕ) where
-  pub action_deny : same s (bytes "DENY") ≡ true → Good Deny ≡ action_told (action_in s)
-  unfolding action_in
-  action_deny t = rw t
+-- what a rule tells, by what its sides tell and its action
+abbrev pub told_by : Option Bool → Option Bool → Option Action → Result (Option Action) Malformed
+told_by x y a = needed malformed x (λ to. needed malformed y (λ from. needed malformed a (λ b. Ok (cond (to && from) (Some b) None))))
 
-  module _ (d : same s (bytes "DENY") ≡ false) where
-    pub action_no : same s (bytes "NOPASS") ≡ true → Good NoPassword ≡ action_told (action_in s)
-    unfolding action_in
-    action_no t = rw (d, t)
-
-    module _ (n : same s (bytes "NOPASS") ≡ false) where
-      pub action_own : same s (bytes "OWNPASS") ≡ true → Good OwnPassword ≡ action_told (action_in s)
-      unfolding action_in
-      action_own t = rw (d, n, t)
-
-      pub action_none : same s (bytes "OWNPASS") ≡ false → BadAction ≡ action_told (action_in s)
-      unfolding action_in
-      action_none t = rw (d, n, t)
-
--- ---- a rule, by what its parts tell
-ids_bad : (user : List ℕ) (groups : List (List ℕ)) (o : Option Ids) → Malformed ≡ ids_told user groups o → o ≡ none
-ids_bad user groups none e = refl
-ids_bad user groups (some i) e = clash cc
-
-ids_good : (user : List ℕ) (groups : List (List ℕ)) {x : Bool} (o : Option Ids) → Applies x ≡ ids_told user groups o → (i : Ids) × (o ≡ some i) × (x ≡ means user groups i)
-ids_good user groups none e = clash cc
-ids_good user groups (some i) e = (i, refl, cc)
-
-action_bad : (o : Option Action) → BadAction ≡ action_told o → o ≡ none
-action_bad none e = refl
-action_bad (some a) e = clash cc
-
-action_good : {a : Action} (o : Option Action) → Good a ≡ action_told o → o ≡ some a
-action_good none e = clash cc
-action_good (some b) e = cc
-
-when_same : {x y x' y' : Bool} (a : Action) → x ≡ x' → y ≡ y' → when_applies (x && y) a ≡ when_applies (x' && y') a
-when_same a e f = rw (e, f)
-
-module _ (q : Question) (to from action : List ℕ) where
-  pub rule_to : Malformed ≡ ids_told q.target [] (ids_in false to) → BadLine ≡ line_tells q (rule_of to from action)
-  unfolding line_tells rule_of
-  rule_to e = rw (ids_bad q.target [] (ids_in false to) e)
-
-  rule_made : {i j : Ids} {a : Action} → ids_in false to ≡ some i → ids_in true from ≡ some j → action_in action ≡ some a → line_tells q (rule_of to from action) ≡ when_applies (means q.target [] i && means q.user q.groups j) a
-  unfolding line_tells rule_of applies
-  rule_made e f g = rw (e, f, g)
-
-  module _ {x : Bool} (t : Applies x ≡ ids_told q.target [] (ids_in false to)) where
-    pub rule_from : Malformed ≡ ids_told q.user q.groups (ids_in true from) → BadLine ≡ line_tells q (rule_of to from action)
-    unfolding line_tells rule_of
-    rule_from e = rw ((ids_good q.target [] (ids_in false to) t).1, ids_bad q.user q.groups (ids_in true from) e)
-
-    module _ {y : Bool} (f : Applies y ≡ ids_told q.user q.groups (ids_in true from)) where
-      pub rule_action : BadAction ≡ action_told (action_in action) → BadLine ≡ line_tells q (rule_of to from action)
-      unfolding line_tells rule_of
-      rule_action e = rw ((ids_good q.target [] (ids_in false to) t).1, (ids_good q.user q.groups (ids_in true from) f).1, action_bad (action_in action) e)
-
-      pub rule_good : {a : Action} → Good a ≡ action_told (action_in action) → when_applies (x && y) a ≡ line_tells q (rule_of to from action)
-      rule_good {a} e =
-          let i = ids_good q.target [] (ids_in false to) t in
-          let j = ids_good q.user q.groups (ids_in true from) f in
-          when_same a i.2 j.2 ∙ sym (rule_made i.1 j.1 (action_good (action_in action) e))
+pub rule_told : (q : Question) (to from action : List ℕ) → line_tells q (rule_of to from action) ≡ told_by (ids_told q.target [] (ids_in false to)) (ids_told q.user q.groups (ids_in true from)) (action_in action)
+unfolding rule_of line_tells applies
+rule_told q to from action = go (ids_in false to) (ids_in true from) (action_in action)
+  where
+    go : (i j : Option Ids) (a : Option Action) → line_tells q (needed malformed i (λ t. needed malformed j (λ f. needed malformed a (λ b. Ok (Some (record { to = t; from = f; action = b })))))) ≡ told_by (ids_told q.target [] i) (ids_told q.user q.groups j) a
+    go None j a = refl
+    go (Some i) None a = refl
+    go (Some i) (Some j) None = refl
+    go (Some i) (Some j) (Some a) = refl
 
 -- ---- a text: empty, a comment, or the parts between its colons
-pub text_none : (q : Question) (s : List ℕ) → length s ≡ 0 → NoneHere ≡ line_tells q (text_rule s)
+pub text_skipped : (q : Question) (s : List ℕ) → null s || head_is 35 s ≡ true → Ok None ≡ line_tells q (text_rule s)
 unfolding line_tells text_rule
-text_none q [] h = refl
-text_none q (b ∷ s) h = absurd (omega arith)
+text_skipped q s h = rw h
 
-module _ (q : Question) (s : List ℕ) (n : length s ≡ 0 → ⊥) where
-  pub text_comment : head_is 35 s ≡ true → NoneHere ≡ line_tells q (text_rule s)
-  unfolding line_tells text_rule
-  text_comment t = rw (filled s n, t)
+pub text_parts : (s : List ℕ) → null s ≡ false → head_is 35 s ≡ false → text_rule s ≡ parts_rule (slice_split (is ":") s)
+unfolding text_rule
+text_parts s h k = rw (h, k)
 
-  module _ (c : head_is 35 s ≡ false) (first : ℕ) (e : first ≡ 0 + lead 58 (drop 0 s)) where
-    text_parts : text_rule s ≡ parts_rule (split_at 58 s)
-    unfolding text_rule
-    text_parts = rw (filled s n, c)
+-- the parts that an iterator gives, one after the other
+module _ {S A : Type 0} (steps : S → Option A → S → Type 0) (v : A → List ℕ) where
+  taken : (all : List (List ℕ)) (s t : S) (r : Option A) → AlwaysYields steps v s all → steps s r t → MatchOption r (all ≡ []) (λ x. (more : List (List ℕ)) × (all ≡ v x ∷ more) × AlwaysYields steps v t more)
+  taken [] s t None g p = refl
+  taken [] s t (Some x) g p = absurd (g x t p)
+  taken (y ∷ ys) s t None g p = absurd (g.0 t p)
+  taken (y ∷ ys) s t (Some x) g p = (ys, ap (λ z. z ∷ ys) (sym (g.1 x t p).0), (g.1 x t p).1)
 
-    pub one_part : first ≡ length s → BadLine ≡ line_tells q (text_rule s)
-    unfolding line_tells
-    one_part h = rw (text_parts, split_last 58 s 0 first e (omega arith))
+  module _ {all : List (List ℕ)} (s s1 s2 : S) (road : YieldsList steps v s all) (x : A) (a : steps s (Some x) s1) where
+    first : (more : List (List ℕ)) × (all ≡ v x ∷ more) × AlwaysYields steps v s1 more
+    first = taken all s s1 (Some x) road.runs a
 
-    module _ (h : first < length s) (second : ℕ) (f : second ≡ first + 1 + lead 58 (drop (first + 1) s)) where
-      pub two_parts : second ≡ length s → BadLine ≡ line_tells q (text_rule s)
-      unfolding line_tells
-      two_parts l = rw (text_parts, split_at_law 58 s 0 first e h, split_last 58 s (first + 1) second f (omega arith))
+    pub one_part : steps s1 None s2 → parts_rule all ≡ Err malformed
+    one_part b = rw (first.1, taken first.0 s1 s2 None first.2 b)
 
-      module _ (k : second < length s) (third : ℕ) (g : third ≡ second + 1 + lead 58 (drop (second + 1) s)) where
-        pub four_parts : third < length s → BadLine ≡ line_tells q (text_rule s)
-        unfolding line_tells
-        four_parts l = let m = split_some 58 (drop (third + 1) s) in rw (text_parts, split_at_law 58 s 0 first e h, split_at_law 58 s (first + 1) second f k, split_at_law 58 s (second + 1) third g l, m.2)
+    module _ (y : A) (b : steps s1 (Some y) s2) (s3 : S) where
+      second : (more : List (List ℕ)) × (first.0 ≡ v y ∷ more) × AlwaysYields steps v s2 more
+      second = taken first.0 s1 s2 (Some y) first.2 b
 
-        pub three_parts : length s ≤ third → rule_of (take (first - 0) (drop 0 s)) (take (second - (first + 1)) (drop (first + 1) s)) (take (length s - (second + 1)) (drop (second + 1) s)) ≡ text_rule s
-        three_parts l = sym (rw (text_parts, split_at_law 58 s 0 first e h, split_at_law 58 s (first + 1) second f k, split_last 58 s (second + 1) third g l, part_rest (second + 1) s))
+      pub two_parts : steps s2 None s3 → parts_rule all ≡ Err malformed
+      two_parts c = rw (first.1, second.1, taken second.0 s2 s3 None second.2 c)
+
+      module _ (z : A) (c : steps s2 (Some z) s3) where
+        third : (more : List (List ℕ)) × (second.0 ≡ v z ∷ more) × AlwaysYields steps v s3 more
+        third = taken second.0 s2 s3 (Some z) second.2 c
+
+        pub three_parts : (s4 : S) → steps s3 None s4 → parts_rule all ≡ rule_of (v x) (v y) (v z)
+        three_parts s4 d = rw (first.1, second.1, third.1, taken third.0 s3 s4 None third.2 d)
+
+        pub four_parts : (s4 : S) (u : A) → steps s3 (Some u) s4 → parts_rule all ≡ Err malformed
+        four_parts s4 u d = rw (first.1, second.1, third.1, (taken third.0 s3 s4 (Some u) third.2 d).1)

@@ -1,62 +1,40 @@
--- The blanks at a line's two ends, step by step. Assumes nothing.
-use mathlib.Core.Path.{◌≡◌, refl, sym, ap, ◌∙◌}
-use mathlib.Core.Bool.{true, false}
-use mathlib.Core.List.{List, [], ◌∷◌, ◌++◌}
-use Prim.Native.Nat.{ℕ, ◌+◌, ◌-◌, ◌≤◌, ◌<◌}
-use native.Mathlib.Omega.{arith}
-use lib.ListN.{length, take, drop, get_or, drop_of_length-le}
-use Rattle.text.specs.Class.{blank}
-use Rattle.text.proofs.Laws.{next, part_rest}
-use Rattle.line.proofs.Search.{taken}
-use Rattle.suauth.specs.Rule.{past_blanks, kept_before, before_blanks, text_rule, rule_in}
+-- The blanks at a line's two ends.
+use Rattle.std.proofs.Common.{◌≡◌, ℕ, zero, suc, ◌+◌, ◌-◌, ◌<◌, List, [], ◌∷◌, length, take, drop, refl, sym, arith}
+use Rattle.text.proofs.Laws.{part_rest}
+use Rattle.suauth.specs.Rule.{past_blanks, kept_before, before_blanks}
+use Rattle.suauth.specs.Contract.{AllBlank, FirstOther, LastOther}
 
-module _ (s : List ℕ) (i : ℕ) where
-  pub past_on : i < length s → blank (get_or s i 0) ≡ true → past_blanks (drop (i + 1) s) ≡ past_blanks (drop i s)
-  unfolding past_blanks
-  past_on h t = rw (next s i, t)
+all_past : (s : List ℕ) → AllBlank s → past_blanks s ≡ []
+unfolding past_blanks
+all_past [] h = refl
+all_past (b ∷ s) h = rw (h 0 (omega arith)) (all_past s (λ k l. h (suc k) (omega arith)))
 
-  pub past_stop : i < length s → blank (get_or s i 0) ≡ false → drop i s ≡ past_blanks (drop i s)
-  unfolding past_blanks
-  past_stop h t = rw (next s i, t)
+first_past : (s : List ℕ) (i : ℕ) → FirstOther s i → past_blanks s ≡ drop i s
+unfolding past_blanks
+first_past [] i f = absurd (omega arith)
+first_past (b ∷ s) zero f = rw f.other
+first_past (b ∷ s) (suc i) f = rw (f.blanks 0 (omega arith)) (first_past s i (record { inside = omega arith; other = f.other; blanks = λ k l. f.blanks (suc k) (omega arith) }))
 
-  pub past_end : length s ≤ i → drop i s ≡ past_blanks (drop i s)
-  unfolding past_blanks
-  past_end h = rw (drop_of_length-le s)
-
--- one byte more at the end
-before_blank : (p : List ℕ) (b : ℕ) → blank b ≡ true → before_blanks (p ++ b ∷ []) ≡ before_blanks p
+all_before : (s : List ℕ) → AllBlank s → before_blanks s ≡ []
 unfolding before_blanks
-before_blank [] b t = rw t
-before_blank (x ∷ p) b t = ap (kept_before x) (before_blank p b t)
+all_before [] h = refl
+all_before (b ∷ s) h = rw (all_before s (λ k l. h (suc k) (omega arith)), h 0 (omega arith))
 
-kept_other : (x : ℕ) (p : List ℕ) (b : ℕ) → kept_before x (p ++ b ∷ []) ≡ x ∷ (p ++ b ∷ [])
-kept_other x [] b = refl
-kept_other x (y ∷ p) b = refl
-
-before_other : (p : List ℕ) (b : ℕ) → blank b ≡ false → before_blanks (p ++ b ∷ []) ≡ p ++ b ∷ []
+last_before : (s : List ℕ) (i : ℕ) → LastOther s i → before_blanks s ≡ take (suc i) s
 unfolding before_blanks
-before_other [] b t = rw t
-before_other (x ∷ p) b t = ap (kept_before x) (before_other p b t) ∙ kept_other x p b
+last_before [] i f = absurd (omega arith)
+last_before (b ∷ s) zero f = rw (all_before s (λ k l. f.blanks (suc k) (omega arith) (omega arith)), f.other)
+last_before (b ∷ []) (suc i) f = absurd (omega arith)
+last_before (b ∷ x ∷ s) (suc i) f = rw (last_before (x ∷ s) i (record { inside = omega arith; other = f.other; blanks = λ k l m. f.blanks (suc k) (omega arith) (omega arith) }))
 
-module _ (s : List ℕ) (from i : ℕ) where
-  module _ (h : from < i) (k : i ≤ length s) where
-    last_byte : take (i - from) (drop from s) ≡ take (i - 1 - from) (drop from s) ++ get_or s (i - 1) 0 ∷ []
-    last_byte = let z : i - 1 + 1 ≡ i = omega arith in rw z at (taken s from (i - 1) (omega arith) (omega arith))
+-- ---- what is left of a line
+pub trim_none : (s : List ℕ) → AllBlank s → [] ≡ before_blanks (past_blanks s)
+unfolding before_blanks
+trim_none s h = rw (all_past s h)
 
-    pub before_on : blank (get_or s (i - 1) 0) ≡ true → before_blanks (take (i - 1 - from) (drop from s)) ≡ before_blanks (take (i - from) (drop from s))
-    before_on t = sym (ap before_blanks last_byte ∙ before_blank (take (i - 1 - from) (drop from s)) (get_or s (i - 1) 0) t)
+module _ (s : List ℕ) (i : ℕ) (f : FirstOther s i) where
+  pub trim_blank : AllBlank (take (length s - i) (drop i s)) → [] ≡ before_blanks (past_blanks s)
+  trim_blank h = rw (first_past s i f) (sym (all_before (drop i s) (rw (part_rest i s) at h)))
 
-    pub before_stop : blank (get_or s (i - 1) 0) ≡ false → take (i - from) (drop from s) ≡ before_blanks (take (i - from) (drop from s))
-    before_stop t = last_byte ∙ sym (ap before_blanks last_byte ∙ before_other (take (i - 1 - from) (drop from s)) (get_or s (i - 1) 0) t)
-
-  pub before_end : i ≤ from → take (i - from) (drop from s) ≡ before_blanks (take (i - from) (drop from s))
-  unfolding before_blanks
-  before_end h = let z : i - from ≡ 0 = omega arith in rw z
-
-pub before_start : (s : List ℕ) (from : ℕ) → before_blanks (take (length s - from) (drop from s)) ≡ before_blanks (drop from s)
-before_start s from = ap before_blanks (part_rest from s)
-
--- the rule of a line is that of its text
-pub rule_is : (s : List ℕ) (a e : ℕ) → drop a s ≡ past_blanks s → take (e - a) (drop a s) ≡ before_blanks (drop a s) → text_rule (take (e - a) (drop a s)) ≡ rule_in s
-unfolding rule_in
-rule_is s a e h k = ap text_rule (k ∙ ap before_blanks h)
+  pub trim_some : (j : ℕ) → LastOther (take (length s - i) (drop i s)) j → take (j + 1) (take (length s - i) (drop i s)) ≡ before_blanks (past_blanks s)
+  trim_some j h = let g : LastOther (drop i s) j = rw (part_rest i s) at h in let e : j + 1 ≡ suc j = omega arith in rw (part_rest i s, first_past s i f, e) (sym (last_before (drop i s) j g))

@@ -1,22 +1,15 @@
 -- What only contracts and proofs cite: demand 3 with a call's own result in it, and what the code's answers about a line stand for.
-use Rattle.std.specs.Prelude.{ℕ, ◌≤◌, ◌≡◌, Bool, true, false, not, List, length, take, drop}
-use Rattle.std.proofs.Math.Option.{Option, none, some}
-use Rattle.text.specs.declared.slice.Found.{Found}
-use Rattle.text.specs.declared.slice.Found.TheVariants.{At, Nothing}
-use Rattle.fault.specs.Fault.{Reading, fault, value}
+use Rattle.std.specs.Prelude.{ℕ, ◌≤◌, ◌<◌, ◌≡◌, Bool, true, false, cond, List, length, take, drop, get_or, Err, None, Ok, Option, Result, Some}
+use denote.Ref.{Bor}
+use Rattle.std.specs.Option.{option_map, option_and_then}
+use Rattle.text.specs.Class.{blank}
+use Rattle.fault.specs.Fault.{and_then}
 use Rattle.question.specs.Contract.{strings_in}
 use Rattle.suauth.specs.declared.Action.{Action}
 use Rattle.suauth.specs.declared.SuAnswer.{SuAnswer}
-use Rattle.suauth.specs.declared.names.Meant.{Meant}
-use Rattle.suauth.specs.declared.names.Meant.TheVariants.{Malformed as BadNames, Applies}
-use Rattle.suauth.specs.declared.rule.ActionRead.{ActionRead}
-use Rattle.suauth.specs.declared.rule.ActionRead.TheVariants.{Malformed as BadAction, Good}
-use Rattle.suauth.specs.declared.rule.LineTold.{LineTold}
-use Rattle.suauth.specs.declared.rule.LineTold.TheVariants.{Malformed as BadLine, Nothing as NoneHere, Rule as RuleHere}
-use Rattle.suauth.specs.declared.lines.Decided.{Decided}
-use Rattle.suauth.specs.declared.lines.Decided.TheVariants.{Nothing as NoneYet, Line as ByLine}
-use Rattle.suauth.specs.Rule.{Names, Ids, Rule, Malformed, behind_word}
-use Rattle.suauth.specs.Meaning.{Question, Asked, holds, means, applies, Decision, answer_of}
+use Rattle.suauth.specs.declared.rule.Malformed.{Malformed}
+use Rattle.suauth.specs.Rule.{Names, Ids, Rule}
+use Rattle.suauth.specs.Meaning.{Question, Asked, holds, means, applies, answer_of}
 use Rattle.suauth.specs.Cut.{CutAt}
 
 -- what is asked with these parts, and the question of parts that ask one
@@ -28,8 +21,8 @@ question_in target user groups = record { target = target; user = user; groups =
 
 -- whether there is a question
 abbrev pub is_question : Option Question → Bool
-is_question none = false
-is_question (some q) = true
+is_question None = false
+is_question (Some q) = true
 
 -- ---- demand 3, where r is what the call gave for a file t and a question
 -- r as the answer of the whole: every cut of t answers what demand 3 says beside r
@@ -46,51 +39,39 @@ pub record Promised (t : List ℕ) (a : Asked) (r : SuAnswer) : Type 0 where
   pub whole : WholeOf t a r
   pub cut : CutOf t a r
 
+-- ---- the blanks of a line
+abbrev pub AllBlank : List ℕ → Type 0
+AllBlank s = (k : ℕ) → k < length s → blank (get_or s k 0) ≡ true
+
+-- at a place stands the first byte that is no blank, or the last
+pub record FirstOther (s : List ℕ) (i : ℕ) : Type 0 where
+  pub inside : i < length s
+  pub other : blank (get_or s i 0) ≡ false
+  pub blanks : (k : ℕ) → k < i → blank (get_or s k 0) ≡ true
+
+pub record LastOther (s : List ℕ) (i : ℕ) : Type 0 where
+  pub inside : i < length s
+  pub other : blank (get_or s i 0) ≡ false
+  pub blanks : (k : ℕ) → i < k → k < length s → blank (get_or s k 0) ≡ true
+
 -- ---- a line
--- the bytes behind a word and one blank begin at the place that a search tells
-abbrev pub Behind : (word s : List ℕ) → Found → Type 0
-Behind w s (At i) = (i ≤ length s) × (behind_word w s ≡ some (drop i s))
-Behind w s Nothing = behind_word w s ≡ none
+-- the bytes of a text that there may be
+abbrev pub text_in : Option (Bor (List ℕ)) → Option (List ℕ)
+text_in None = None
+text_in (Some s) = Some s.now
 
 -- what a list tells of a user with groups
-abbrev pub names_told : List ℕ → List (List ℕ) → Option Names → Meant
-names_told user groups none = BadNames
-names_told user groups (some n) = Applies (holds user groups n)
-
--- what all but these tell
-abbrev pub others_told : Meant → Meant
-others_told BadNames = BadNames
-others_told (Applies x) = Applies (not x)
+abbrev pub names_told : List ℕ → List (List ℕ) → Option Names → Option Bool
+names_told user groups o = option_map (holds user groups) o
 
 -- what an id tells
-abbrev pub ids_told : List ℕ → List (List ℕ) → Option Ids → Meant
-ids_told user groups none = BadNames
-ids_told user groups (some i) = Applies (means user groups i)
+abbrev pub ids_told : List ℕ → List (List ℕ) → Option Ids → Option Bool
+ids_told user groups o = option_map (means user groups) o
 
--- what an action tells
-abbrev pub action_told : Option Action → ActionRead
-action_told none = BadAction
-action_told (some a) = Good a
+-- the action of a rule that applies
+abbrev pub action_if : Question → Rule → Option Action
+action_if q r = cond (applies q r) (Some r.action) None
 
--- an action, where its rule applies
-abbrev pub when_applies : Bool → Action → LineTold
-when_applies true a = RuleHere a
-when_applies false a = NoneHere
-
--- what a line tells
-unfoldable pub line_tells : Question → Reading Malformed (Option Rule) → LineTold
-line_tells q (fault m) = BadLine
-line_tells q (value none) = NoneHere
-line_tells q (value (some r)) = when_applies (applies q r) r.action
-
--- ---- all lines
--- what the code keeps of the lines so far
-abbrev pub kept_as : Decided → Option Decision
-kept_as NoneYet = none
-kept_as (ByLine a l) = some (record { line = l; action = a })
-
--- what a line of this number decides, by what it tells
-abbrev pub decided_at : ℕ → LineTold → Option Decision
-decided_at n BadLine = none
-decided_at n NoneHere = none
-decided_at n (RuleHere a) = some (record { line = n; action = a })
+-- what a line tells: its rule's action, if it has a rule that applies
+unfoldable pub line_tells : Question → Result (Option Rule) Malformed → Result (Option Action) Malformed
+line_tells q r = and_then r (λ o. Ok (option_and_then (action_if q) o))

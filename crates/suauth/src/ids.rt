@@ -1,68 +1,49 @@
 // One side of a rule.
 ghost use Rattle.std.specs.Prelude.{◌≡◌};
 ghost use Rattle.question.specs.Contract.{strings_in};
-ghost use Rattle.suauth.specs.Rule.{names_in, ids_in};
-ghost use Rattle.suauth.specs.Contract.{Behind, names_told, others_told, ids_told};
+ghost use Rattle.suauth.specs.Rule.{behind_word, names_in, ids_in};
+ghost use Rattle.suauth.specs.Contract.{text_in, names_told, ids_told};
 
-use super::names::{Meant, list_tells};
+use super::names::list_tells;
 use text::class::is_blank;
-use text::slice::{Found, equal, starts_with};
 
-// Where the bytes begin that stand behind a word and one blank.
-fn behind_word(s: &[u8], word: &[u8]) -> Found
-    ensures { Behind word.now s.now result }
+// What stands behind a word and one blank.
+#[tactic(auto, unfolding(crate::specs::Rule::behind_word))]
+fn behind_word<'a>(s: &'a [u8], word: &[u8]) -> Option<&'a [u8]>
+    ensures { text_in result ≡ behind_word word.now s.now }
 {
-    if !starts_with(s, word) {
-        return Found::Nothing;
+    let behind = s.strip_prefix(word)?;
+    match behind.split_first() {
+        Some((b, rest)) if is_blank(*b) => Some(rest),
+        _ => None,
     }
-    let n = word.len();
-    if n >= s.len() {
-        return Found::Nothing;
-    }
-    if !is_blank(s[n]) {
-        return Found::Nothing;
-    }
-    Found::At(n + 1)
 }
 
 // A list of users, or on the from side one of groups.
-fn names_tell(s: &[u8], from: bool, user: &[u8], groups: &[u8]) -> Meant
+#[tactic(auto, unfolding(crate::specs::Rule::names_in))]
+fn names_tell(s: &[u8], from: bool, user: &[u8], groups: &[u8]) -> Option<bool>
     ensures { result ≡ names_told user.now (strings_in groups.now) (names_in from s.now) }
 {
-    if !from {
-        return list_tells(s, user, groups, false);
+    if from {
+        if let Some(list) = behind_word(s, b"GROUP") {
+            return list_tells(list, user, groups, true);
+        }
     }
-    match behind_word(s, b"GROUP") {
-        Found::Nothing => list_tells(s, user, groups, false),
-        Found::At(i) => list_tells(&s[i..], user, groups, true),
-    }
-}
-
-// All but these.
-fn others(these: Meant) -> Meant
-    ensures { result ≡ others_told these }
-{
-    match these {
-        Meant::Malformed => Meant::Malformed,
-        Meant::Applies(x) => Meant::Applies(!x),
-    }
+    list_tells(s, user, groups, false)
 }
 
 // An id; `from` says that it is on the from side.
-pub fn ids_tell(s: &[u8], from: bool, user: &[u8], groups: &[u8]) -> Meant
+#[tactic(auto, unfolding(crate::specs::Rule::ids_in, crate::specs::Meaning::means))]
+pub fn ids_tell(s: &[u8], from: bool, user: &[u8], groups: &[u8]) -> Option<bool>
     ensures { result ≡ ids_told user.now (strings_in groups.now) (ids_in from s.now) }
 {
-    if equal(s, b"ALL") {
-        return Meant::Applies(true);
+    if s == b"ALL".as_slice() {
+        return Some(true);
     }
-    match behind_word(s, b"ALL") {
-        Found::Nothing => names_tell(s, from, user, groups),
-        Found::At(i) => {
-            let rest = &s[i..];
-            match behind_word(rest, b"EXCEPT") {
-                Found::Nothing => names_tell(s, from, user, groups),
-                Found::At(j) => others(names_tell(&rest[j..], from, user, groups)),
-            }
+    if let Some(rest) = behind_word(s, b"ALL") {
+        if let Some(list) = behind_word(rest, b"EXCEPT") {
+            return names_tell(list, from, user, groups).map(|x| !x);
         }
     }
+    names_tell(s, from, user, groups)
 }

@@ -11,20 +11,20 @@ ghost use Rattle.std.specs.Prelude.{◌≡◌};
 ghost use Rattle.suauth.specs.Meaning.{question_of};
 ghost use Rattle.suauth.specs.Contract.{asking, is_question, Promised};
 
-use line::whole::{Acceptance, acceptance_of};
+use line::whole::{Unaccepted, acceptance_of};
 use lines::read_lines;
 use question::User;
 use question::form::{Listed, name_is_good, strings_are_good};
 
 // What a rule of a su file says.
-#[derive(Drop)]
+#[derive(Clone, Copy, PartialEq, Eq)]
 pub enum Action {
     Deny,
     NoPassword,
     OwnPassword,
 }
 
-#[derive(Drop)]
+#[derive(Clone, Copy)]
 pub enum SuAnswer {
     // Each of these with the number of the deciding line.
     Deny(usize),
@@ -42,16 +42,13 @@ pub enum SuAnswer {
 }
 
 // Whether the bytes ask a question.
+#[tactic(auto, using(crate::proofs::AnswerLaws::question_is))]
 fn question_is_good(target: &[u8], user: &[u8], groups: &[u8]) -> bool
     ensures { result ≡ is_question (question_of (asking target.now user.now groups.now)) }
 {
-    if !name_is_good(target, User::BYTES) {
-        return false;
-    }
-    if !name_is_good(user, User::BYTES) {
-        return false;
-    }
-    strings_are_good(groups, Listed::Groups)
+    name_is_good(target, User::BYTES)
+        && name_is_good(user, User::BYTES)
+        && strings_are_good(groups, Listed::Groups)
 }
 
 // The answer for a user who has these groups and wants to be the target. Groups are zero-ended strings one after the other.
@@ -62,8 +59,8 @@ pub fn su_answer(file: &[u8], target: &[u8], user: &[u8], groups: &[u8]) -> SuAn
         return SuAnswer::MalformedQuestion;
     }
     match acceptance_of(file) {
-        Acceptance::Long => SuAnswer::LongFile,
-        Acceptance::RefusedAt(place) => SuAnswer::RefusedByte(place),
-        Acceptance::Accepted => read_lines(file, target, user, groups),
+        Err(Unaccepted::Long) => SuAnswer::LongFile,
+        Err(Unaccepted::RefusedAt(place)) => SuAnswer::RefusedByte(place),
+        Ok(()) => read_lines(file, target, user, groups),
     }
 }

@@ -1,60 +1,35 @@
 // One line.
-ghost use Rattle.std.specs.Prelude.{◌≡◌, ◌&&◌};
+ghost use Rattle.std.specs.Prelude.{◌≡◌};
 ghost use Rattle.suauth.specs.Rule.{action_in, rule_of, text_rule, rule_in};
-ghost use Rattle.suauth.specs.Contract.{question_in, action_told, when_applies, line_tells};
+ghost use Rattle.suauth.specs.Contract.{question_in, line_tells};
 
 use super::Action;
 use super::ids::ids_tell;
-use super::names::Meant;
-use super::trim::{text_end, text_start};
-use text::slice::{byte_from, equal, head_is};
+use super::trim::trimmed;
+use text::slice::head_is;
 
-// The action of a rule, if it is one.
-#[derive(Drop)]
-pub enum ActionRead {
-    Malformed,
-    Good(Action),
-}
-
-// What a line says to a question.
-#[derive(Drop)]
-pub enum LineTold {
-    Malformed,
-    // It has no rule, or one that does not apply.
-    Nothing,
-    Rule(Action),
-}
+// A line that is no rule and may not be skipped.
+#[derive(Clone, Copy)]
+pub struct Malformed;
 
 // An action by its name.
-fn read_action(s: &[u8]) -> ActionRead
-    ensures { result ≡ action_told (action_in s.now) }
+#[tactic(auto, unfolding(crate::specs::Rule::action_in))]
+fn read_action(s: &[u8]) -> Option<Action>
+    ensures { result ≡ action_in s.now }
 {
-    if equal(s, b"DENY") {
-        return ActionRead::Good(Action::Deny);
+    if s == b"DENY".as_slice() {
+        Some(Action::Deny)
+    } else if s == b"NOPASS".as_slice() {
+        Some(Action::NoPassword)
+    } else if s == b"OWNPASS".as_slice() {
+        Some(Action::OwnPassword)
+    } else {
+        None
     }
-    if equal(s, b"NOPASS") {
-        return ActionRead::Good(Action::NoPassword);
-    }
-    if equal(s, b"OWNPASS") {
-        return ActionRead::Good(Action::OwnPassword);
-    }
-    ActionRead::Malformed
 }
 
-// The action of a rule, where both its sides apply.
-fn when_both(to: bool, from: bool, action: Action) -> LineTold
-    ensures { result ≡ when_applies (to && from) action }
-{
-    if !to {
-        return LineTold::Nothing;
-    }
-    if !from {
-        return LineTold::Nothing;
-    }
-    LineTold::Rule(action)
-}
-
-// A rule of three parts; no group is asked about on the to side.
+// The action of a rule of three parts, where both its sides apply; no group is asked about on the to side.
+#[tactic(auto, using(crate::proofs::RuleLaws::rule_told), unfolding(question::specs::Contract::strings_in))]
 fn rule_tells(
     to: &[u8],
     from: &[u8],
@@ -62,58 +37,48 @@ fn rule_tells(
     target: &[u8],
     user: &[u8],
     groups: &[u8],
-) -> LineTold
+) -> Result<Option<Action>, Malformed>
     ensures { result ≡ line_tells (question_in target.now user.now groups.now) (rule_of to.now from.now action.now) }
 {
-    let Meant::Applies(x) = ids_tell(to, false, target, b"") else {
-        return LineTold::Malformed;
-    };
-    let Meant::Applies(y) = ids_tell(from, true, user, groups) else {
-        return LineTold::Malformed;
-    };
-    let ActionRead::Good(a) = read_action(action) else {
-        return LineTold::Malformed;
-    };
-    when_both(x, y, a)
+    let to = ids_tell(to, false, target, b"").ok_or(Malformed)?;
+    let from = ids_tell(from, true, user, groups).ok_or(Malformed)?;
+    let action = read_action(action).ok_or(Malformed)?;
+    Ok((to && from).then_some(action))
 }
 
-// A line without the blanks at its two ends.
-fn text_tells(text: &[u8], target: &[u8], user: &[u8], groups: &[u8]) -> LineTold
+// The same of a line without the blanks at its two ends: none of a line that is skipped.
+fn text_tells(
+    text: &[u8],
+    target: &[u8],
+    user: &[u8],
+    groups: &[u8],
+) -> Result<Option<Action>, Malformed>
     ensures { result ≡ line_tells (question_in target.now user.now groups.now) (text_rule text.now) }
 {
-    if text.len() == 0 {
-        return LineTold::Nothing;
+    if text.is_empty() || head_is(text, b'#') {
+        return Ok(None);
     }
-    if head_is(text, b'#') {
-        return LineTold::Nothing;
-    }
-    let first = byte_from(text, 0, b':');
-    if first == text.len() {
-        return LineTold::Malformed;
-    }
-    let second = byte_from(text, first + 1, b':');
-    if second == text.len() {
-        return LineTold::Malformed;
-    }
-    let third = byte_from(text, second + 1, b':');
-    if third < text.len() {
-        return LineTold::Malformed;
-    }
-    rule_tells(
-        &text[0..first],
-        &text[first + 1..second],
-        &text[second + 1..],
-        target,
-        user,
-        groups,
-    )
+    let mut parts = text.split(|b| *b == b':');
+    let (Some(to), Some(from), Some(action), None) = (
+        parts.next(),
+        parts.next(),
+        parts.next(),
+        parts.next(),
+    ) else {
+        return Err(Malformed);
+    };
+    rule_tells(to, from, action, target, user, groups)
 }
 
-// A line without its newline.
-pub fn line_tells(line: &[u8], target: &[u8], user: &[u8], groups: &[u8]) -> LineTold
+// The same of a line without its newline.
+#[tactic(auto, unfolding(crate::specs::Rule::rule_in))]
+pub fn line_tells(
+    line: &[u8],
+    target: &[u8],
+    user: &[u8],
+    groups: &[u8],
+) -> Result<Option<Action>, Malformed>
     ensures { result ≡ line_tells (question_in target.now user.now groups.now) (rule_in line.now) }
 {
-    let start = text_start(line);
-    let end = text_end(line, start);
-    text_tells(&line[start..end], target, user, groups)
+    text_tells(trimmed(line), target, user, groups)
 }

@@ -1,9 +1,9 @@
 -- The bar beside a count. Assumes nothing.
-use mathlib.Core.Path.{◌≡◌, refl, ap, ◌∙◌}
+use mathlib.Core.Path.{◌≡◌, refl, sym, ap, ◌∙◌}
 use mathlib.Core.List.{List, [], ◌∷◌, ◌++◌}
-use Prim.Native.Nat.{ℕ, zero, suc, max, ◌+◌, ◌*◌, ◌-◌, ◌/◌, ◌%◌, ◌≤◌, ◌<◌, ◌^◌}
+use Prim.Native.Nat.{ℕ, zero, suc, min, max, ◌+◌, ◌*◌, ◌-◌, ◌/◌, ◌%◌, ◌≤◌, ◌<◌, ◌^◌}
 use native.Mathlib.Decide.{dec_le}
-use native.Mathlib.Nat.{pow-suc}
+use native.Mathlib.Nat.{pow-suc, mod-lt, div-add-mod', div-eq_of_lt, mul-add-div_right, add-div_left}
 use native.Mathlib.Omega.{arith}
 use borrow.Author.Tests.{eq-eqb, ne_eqb}
 use lib.ListN.{length, length-append, get_or, drop, replicate, drop_of_length-le}
@@ -26,14 +26,29 @@ pub larger_start : (l : List ℕ) → max 0 (largest_of (drop 0 l)) ≡ largest_
 larger_start l = omega arith
 
 -- ---- the length of a bar
+-- the quotient, with one more where a remainder is left, is that of the dividend with the divisor less one
+ceil_parts : (y : ℕ) → 0 < y → (q r : ℕ) → r < y → (q * y + r + (y - 1)) / y ≡ q + min 1 r
+ceil_parts y p q zero h =
+    let e : q * y + 0 + (y - 1) ≡ q * y + (y - 1) = omega arith in
+    let d : (y - 1) / y ≡ 0 = div-eq_of_lt (omega arith) in
+    rw (e, mul-add-div_right p q (y - 1), d) (omega arith)
+ceil_parts y p q (suc r) h =
+    let e : q * y + suc r + (y - 1) ≡ q * y + (y + r) = omega arith in
+    let a : (y + r) / y ≡ r / y + 1 = add-div_left r p in
+    let d : r / y ≡ 0 = div-eq_of_lt (omega arith) in
+    rw (e, mul-add-div_right p q (y + r), a, d) (omega arith)
+
+ceil_up : (x y : ℕ) → 0 < y → x / y + min 1 (x % y) ≡ (x + (y - 1)) / y
+ceil_up x y p = sym (ceil_parts y p (x / y) (x % y) (mod-lt x {m = y} p)) ∙ ap (λ (z : ℕ). (z + (y - 1)) / y) (div-add-mod' x y)
+
 module _ (n most : ℕ) where
   pub length_none : most ≡ 0 → 0 ≡ bar_length n most
   unfolding bar_length
   length_none e = rw (eq-eqb most 0 e)
 
-  pub length_of : (most ≡ 0 → ⊥) → (n * 48 + (most - 1)) / most ≡ bar_length n most
+  pub length_of : {r a b : ℕ} → (most ≡ 0 → ⊥) → a ≡ n → b ≡ most → r ≡ a * 48 / b + min 1 (a * 48 % b) → r ≡ bar_length n most
   unfolding bar_length
-  length_of h = rw (ne_eqb most 0 h)
+  length_of h f g e = let p : 0 < most = omega arith in rw (ne_eqb most 0 h, e, f, g) (ceil_up (n * 48) most p)
 
 -- ---- marks
 pub marks_next : (n i : ℕ) → i < n → replicate {A = ℕ} (n - i) 35 ≡ (35 ∷ []) ++ replicate (n - (i + 1)) 35

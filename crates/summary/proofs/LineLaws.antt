@@ -1,20 +1,16 @@
 -- The printed lines of figures. Assumes nothing.
 use mathlib.Core.Path.{◌≡◌}
-use mathlib.Core.Bool.{Bool, true, false}
 use mathlib.Core.List.{List, [], ◌++◌}
 use Prim.Native.Nat.{ℕ, ◌+◌, ◌*◌, ◌-◌, ◌/◌, ◌%◌, ◌≤◌, ◌<◌}
 use native.Mathlib.Omega.{arith}
 use borrow.Author.Tests.{eq-eqb, ne_eqb}
-use native.Mathlib.Nat.{mod-lt}
-use mir.Syntax.{w32, w64}
-use mir.Val.{Fits}
 use lib.ListN.{length, get_or, take, drop, drop_of_length-le}
 use lib.Seq.{drop-drop}
 use Rattle.text.specs.Bytes.{bytes}
 use Rattle.text.proofs.Laws.{next}
 use Rattle.output.specs.Decimal.{decimal}
-use Rattle.summary.specs.Bar.{largest_of, bar_text}
-use Rattle.summary.specs.Summary.{counts_text, largest_shown, row_text, below_text, mean_text}
+use Rattle.summary.specs.Bar.{bar_text}
+use Rattle.summary.specs.Summary.{counts_text, row_text, below_text, mean_text}
 
 -- ---- a line for each count
 pub counts_next : (names counts : List ℕ) (most i : ℕ) → i < length counts
@@ -29,15 +25,6 @@ pub counts_end : (names counts : List ℕ) (most i : ℕ) → length counts ≤ 
 unfolding counts_text
 counts_end names counts most i h = let d = drop_of_length-le counts {i = i} h in rw d
 
--- ---- the largest where bars are drawn
-pub shown_largest : (bars : Bool) (counts : List ℕ) {r : ℕ} → bars ≡ true → r ≡ largest_of counts → r ≡ largest_shown bars counts
-unfolding largest_shown
-shown_largest bars counts e h = rw e h
-
-pub shown_none : (bars : Bool) (counts : List ℕ) → bars ≡ false → 0 ≡ largest_shown bars counts
-unfolding largest_shown
-shown_none bars counts e = rw e
-
 -- ---- ages
 module _ (below : ℕ) where
   pub below_none : below ≡ 0 → below_text below ≡ row_text (bytes "below-zero-sum      ") 0
@@ -49,9 +36,6 @@ module _ (below : ℕ) where
   below_some h = rw (ne_eqb below 0 h)
 
 module _ (sum count : ℕ) where
-  pub tenth_fits : (count ≡ 0 → ⊥) → Fits w32 count → Fits w64 (sum % count * 10)
-  tenth_fits h f = let k : 0 < count = omega arith in record { fits = omega (arith, mod-lt sum {m = count} k, f.fits) }
-
   pub mean_none : count ≡ 0 → mean_text sum count ≡ bytes "age-mean            -\n"
   unfolding mean_text
   mean_none e = rw (eq-eqb count 0 e)

@@ -1,10 +1,9 @@
 // The bar beside a count: as long as the count is large beside the largest of its group.
-ghost use Rattle.std.specs.Prelude.{max, ◌≡◌, replicate};
+ghost use Rattle.std.specs.Prelude.{◌≡◌, replicate};
 ghost use Rattle.output.specs.Contract.{WroteAfter};
 ghost use Rattle.summary.specs.Bar.{largest_of, bar_length, gap_text, bar_text};
 
 use output::behind::{then_all, then_byte};
-use text::buffer::Filled;
 
 #[derive(Drop)]
 pub struct Bar;
@@ -14,24 +13,13 @@ impl Bar {
     pub const LENGTH: u64 = 48;
 }
 
-fn larger(n: u32, most: u32) -> u32
-    ensures { result ≡ max n most }
-{
-    if n > most {
-        return n;
-    }
-    most
-}
-
 // The largest of some counts, 0 for none.
 pub fn largest(counts: &[u32]) -> u32
     ensures { result ≡ largest_of counts.now }
 {
     let mut most = 0;
-    let mut i = 0;
-    while i < counts.len() {
-        most = larger(counts[i], most);
-        i += 1;
+    for &n in counts {
+        most = n.max(most);
     }
     most
 }
@@ -43,25 +31,22 @@ fn bar_length(n: u32, most: u32) -> usize
     if most == 0 {
         return 0;
     }
-    let wide = most as u64;
-    ((n as u64 * Bar::LENGTH + (wide - 1)) / wide) as usize
+    (u64::from(n) * Bar::LENGTH).div_ceil(u64::from(most)) as usize
 }
 
 // So many marks.
-fn then_marks(filled: Filled, marks: usize, out: &mut [u8]) -> Filled
+fn then_marks(filled: Option<usize>, marks: usize, out: &mut [u8]) -> Option<usize>
     ensures { WroteAfter filled out.old out.new (replicate marks 35) result }
 {
     let mut last = filled;
-    let mut i = 0;
-    while i < marks {
+    for _ in 0..marks {
         last = then_byte(last, b'#', out);
-        i += 1;
     }
     last
 }
 
 // Blanks that fill up a count to eight columns.
-fn then_gap(filled: Filled, n: u32, out: &mut [u8]) -> Filled
+fn then_gap(filled: Option<usize>, n: u32, out: &mut [u8]) -> Option<usize>
     ensures { WroteAfter filled out.old out.new (gap_text n) result }
 {
     if n < 10 {
@@ -86,7 +71,7 @@ fn then_gap(filled: Filled, n: u32, out: &mut [u8]) -> Filled
 }
 
 // The bar of a count beside the largest; none where either is 0.
-pub fn then_bar(filled: Filled, n: u32, most: u32, out: &mut [u8]) -> Filled
+pub fn then_bar(filled: Option<usize>, n: u32, most: u32, out: &mut [u8]) -> Option<usize>
     ensures { WroteAfter filled out.old out.new (bar_text n most) result }
 {
     let length = bar_length(n, most);

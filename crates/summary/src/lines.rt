@@ -7,7 +7,7 @@ ghost use Rattle.summary.specs.Summary.{counts_text, largest_shown, row_text, be
 use super::bar::{largest, then_bar};
 use figures::Figures;
 use output::behind::{then_all, then_decimal};
-use text::buffer::{Filled, put_all};
+use text::buffer::put_all;
 
 // What was found in a log.
 #[derive(Clone, Copy)]
@@ -25,13 +25,18 @@ impl Summary {
 }
 
 // A line for each count: its name, which has twenty columns, the count, and its bar where there is a largest count.
-fn then_counts(filled: Filled, names: &[u8], counts: &[u32], most: u32, out: &mut [u8]) -> Filled
+fn then_counts(
+    filled: Option<usize>,
+    names: &[u8],
+    counts: &[u32],
+    most: u32,
+    out: &mut [u8],
+) -> Option<usize>
     requires { length counts.now * 20 ≤ length names.now }
     ensures { WroteAfter filled out.old out.new (counts_text names.now counts.now most) result }
 {
     let mut last = filled;
-    let mut i = 0;
-    while i < counts.len() {
+    for i in 0..counts.len() {
         let n = counts[i];
         let at = i * Summary::NAME;
         let end = at + Summary::NAME;
@@ -39,23 +44,20 @@ fn then_counts(filled: Filled, names: &[u8], counts: &[u32], most: u32, out: &mu
         let count = then_decimal(name, n as usize, out);
         let bar = then_bar(count, n, most, out);
         last = then_all(bar, b"\n", out);
-        i += 1;
     }
     last
 }
 
 // The largest count where bars are drawn, else 0.
+#[tactic(auto, unfolding(crate::specs::Summary::largest_shown))]
 fn largest_shown(bars: bool, counts: &[u32]) -> u32
     ensures { result ≡ largest_shown bars counts.now }
 {
-    if bars {
-        return largest(counts);
-    }
-    0
+    if bars { largest(counts) } else { 0 }
 }
 
 // A line of a name and a figure.
-fn then_row(filled: Filled, name: &[u8], figure: usize, out: &mut [u8]) -> Filled
+fn then_row(filled: Option<usize>, name: &[u8], figure: usize, out: &mut [u8]) -> Option<usize>
     ensures { WroteAfter filled out.old out.new (row_text name.now figure) result }
 {
     let named = then_all(filled, name, out);
@@ -63,7 +65,7 @@ fn then_row(filled: Filled, name: &[u8], figure: usize, out: &mut [u8]) -> Fille
 }
 
 // How many records have each known answer number, 0 to 5 and 11 to 23.
-fn then_answers(filled: Filled, figures: Figures, out: &mut [u8]) -> Filled
+fn then_answers(filled: Option<usize>, figures: Figures, out: &mut [u8]) -> Option<usize>
     ensures { WroteAfter filled out.old out.new (answers_text figures) result }
 {
     let answers = figures.answers;
@@ -86,7 +88,7 @@ fn then_answers(filled: Filled, figures: Figures, out: &mut [u8]) -> Filled
 }
 
 // How many are of each weekday.
-fn then_days(filled: Filled, figures: Figures, bars: bool, out: &mut [u8]) -> Filled
+fn then_days(filled: Option<usize>, figures: Figures, bars: bool, out: &mut [u8]) -> Option<usize>
     ensures { WroteAfter filled out.old out.new (days_text figures bars) result }
 {
     let weekdays = figures.weekdays;
@@ -102,7 +104,7 @@ fn then_days(filled: Filled, figures: Figures, bars: bool, out: &mut [u8]) -> Fi
 }
 
 // How many are of each hour of the day.
-fn then_hours(filled: Filled, figures: Figures, bars: bool, out: &mut [u8]) -> Filled
+fn then_hours(filled: Option<usize>, figures: Figures, bars: bool, out: &mut [u8]) -> Option<usize>
     ensures { WroteAfter filled out.old out.new (hours_text figures bars) result }
 {
     let hours = figures.hours;
@@ -120,7 +122,7 @@ fn then_hours(filled: Filled, figures: Figures, bars: bool, out: &mut [u8]) -> F
 }
 
 // The sum of the ages below zero, with its sign.
-fn then_below(filled: Filled, below: u64, out: &mut [u8]) -> Filled
+fn then_below(filled: Option<usize>, below: u64, out: &mut [u8]) -> Option<usize>
     ensures { WroteAfter filled out.old out.new (below_text below) result }
 {
     if below == 0 {
@@ -130,7 +132,7 @@ fn then_below(filled: Filled, below: u64, out: &mut [u8]) -> Filled
 }
 
 // The mean rounded down to a tenth, `-` where there is none.
-fn then_mean(filled: Filled, sum: u64, count: u32, out: &mut [u8]) -> Filled
+fn then_mean(filled: Option<usize>, sum: u64, count: u32, out: &mut [u8]) -> Option<usize>
     ensures { WroteAfter filled out.old out.new (mean_text sum count) result }
 {
     if count == 0 {
@@ -145,7 +147,7 @@ fn then_mean(filled: Filled, sum: u64, count: u32, out: &mut [u8]) -> Filled
 }
 
 // The sums of the ages, and the mean.
-fn then_ages(filled: Filled, figures: Figures, out: &mut [u8]) -> Filled
+fn then_ages(filled: Option<usize>, figures: Figures, out: &mut [u8]) -> Option<usize>
     ensures { WroteAfter filled out.old out.new (ages_text figures) result }
 {
     let below = then_below(filled, figures.below, out);
@@ -155,7 +157,7 @@ fn then_ages(filled: Filled, figures: Figures, out: &mut [u8]) -> Filled
 }
 
 // How many records were refused and given, and what was left out.
-fn then_records(filled: Filled, summary: Summary, out: &mut [u8]) -> Filled
+fn then_records(filled: Option<usize>, summary: Summary, out: &mut [u8]) -> Option<usize>
     ensures { WroteAfter filled out.old out.new (records_text summary) result }
 {
     let figures = summary.figures;
@@ -176,7 +178,7 @@ fn then_records(filled: Filled, summary: Summary, out: &mut [u8]) -> Filled
 }
 
 // All lines, at the front of a buffer; bars where they are wanted.
-pub fn put_summary(summary: Summary, bars: bool, out: &mut [u8]) -> Filled
+pub fn put_summary(summary: Summary, bars: bool, out: &mut [u8]) -> Option<usize>
     ensures { Wrote out.old out.new 0 (summary_text summary bars) result }
 {
     let figures = summary.figures;

@@ -1,5 +1,5 @@
 // Answers with a log, and what is printed of one.
-use checker::file::{file_buffer, load_argument};
+use checker::file::{FILE, NAME, load_argument};
 use log_text::show::show;
 use record_log::file::Log;
 use record_log::opening::open;
@@ -7,14 +7,13 @@ use responder::lines::answer_lines;
 use responder::source::Source;
 use std::fs::File;
 use std::rt::{Env, Files};
-use streams::buffers::buffer;
+use streams::buffers::zeros;
 use streams::identity::Identity;
-use streams::input::{Input, Loaded, load_name};
+use streams::input::{Input, load_name};
 use streams::message;
 use streams::name::open_read;
 use streams::standard::Streams;
 use summary::gather::print_figures;
-use text::slice::equal;
 
 // What is printed of a log.
 #[derive(Clone, Copy)]
@@ -31,12 +30,12 @@ fn answer_logged<R: Env + Files<File = File>>(
     identity: Identity,
     i: usize,
 ) {
-    let mut name = buffer();
+    let mut name = zeros::<NAME>();
     match load_name(rt, streams.errors, i, b"the name of the log", &mut name) {
-        Loaded::Failed => {
+        None => {
             answer_lines(streams, Source::Table, table, Log::none(), b"");
         }
-        Loaded::Bytes(n) => {
+        Some(n) => {
             let opened = open(rt, streams, &name[..n], identity);
             answer_lines(streams, Source::Table, table, opened, &name[..n]);
         }
@@ -46,11 +45,11 @@ fn answer_logged<R: Env + Files<File = File>>(
 // Answers the questions of standard input, with the log and the table that these arguments name. The table is read
 // before the log is opened, so that a wrong table leaves no log behind.
 pub fn answer<R: Env + Files<File = File>>(rt: &R, streams: Streams, i: usize, j: usize) {
-    let mut bytes = file_buffer();
+    let mut bytes = zeros::<FILE>();
     let read = load_argument(rt, streams, j, b"the name of the table", &mut bytes);
     let loaded = read.loaded;
     let identity = read.identity;
-    let Loaded::Bytes(n) = loaded else {
+    let Some(n) = loaded else {
         return;
     };
     answer_logged(rt, streams, &bytes[..n], identity, i);
@@ -70,7 +69,7 @@ fn print_view(streams: Streams, view: LogView, input: Input<'_>) {
 
 // Prints what is asked of the log of this name, `-` for standard input; one that cannot be opened is told.
 fn read_named<R: Files<File = File>>(rt: &R, streams: Streams, view: LogView, name: &[u8]) {
-    if equal(name, b"-") {
+    if name == b"-".as_slice() {
         print_view(streams, view, Input::standard(streams));
         return;
     }
@@ -82,9 +81,8 @@ fn read_named<R: Files<File = File>>(rt: &R, streams: Streams, view: LogView, na
 
 // Prints what is asked of the log that an argument names.
 pub fn read<R: Env + Files<File = File>>(rt: &R, streams: Streams, view: LogView, i: usize) {
-    let mut name = buffer();
-    let Loaded::Bytes(n) = load_name(rt, streams.errors, i, b"the name of the log", &mut name)
-    else {
+    let mut name = zeros::<NAME>();
+    let Some(n) = load_name(rt, streams.errors, i, b"the name of the log", &mut name) else {
         return;
     };
     read_named(rt, streams, view, &name[..n]);

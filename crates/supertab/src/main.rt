@@ -3,7 +3,7 @@
 
 mod logging; // answers with a log, and what is printed of one
 
-use checker::file::{file_buffer, load};
+use checker::file::{FILE, load};
 use checker::{su, table};
 use command_line::request::{Arguments, Misuse, Request};
 use command_line::uses::requested;
@@ -13,7 +13,7 @@ use responder::lines::answer_lines;
 use responder::source::Source;
 use std::fs::File;
 use std::rt::{Env, Files};
-use streams::input::Loaded;
+use streams::buffers::zeros;
 use streams::standard::Streams;
 use streams::{message, standard_output};
 
@@ -26,8 +26,8 @@ fn answer<R: Env + Files<File = File>>(
     i: usize,
     what: &[u8],
 ) {
-    let mut bytes = file_buffer();
-    let Loaded::Bytes(n) = load(rt, streams, i, what, &mut bytes) else {
+    let mut bytes = zeros::<FILE>();
+    let Some(n) = load(rt, streams, i, what, &mut bytes) else {
         return;
     };
     answer_lines(streams, source, &bytes[..n], Log::none(), b"");
@@ -53,25 +53,23 @@ fn help(streams: Streams) {
 
 // Answers from a table, with a log if one is named.
 fn answer_table<R: Env + Files<File = File>>(rt: &R, streams: Streams, arguments: Arguments) {
-    if arguments.log == 0 {
-        answer(
+    match arguments.log {
+        Some(log) => logging::answer(rt, streams, log, arguments.file),
+        None => answer(
             rt,
             streams,
             Source::Table,
             arguments.file,
             b"the name of the table",
-        );
-    } else {
-        logging::answer(rt, streams, arguments.log, arguments.file);
+        ),
     }
 }
 
 // Checks a table, with the question in the argument behind it if there is one.
 fn check_table<R: Env + Files<File = File>>(rt: &R, streams: Streams, arguments: Arguments) {
-    if arguments.question == 0 {
-        table::check(rt, streams, arguments.file);
-    } else {
-        table::check_with(rt, streams, arguments.file);
+    match arguments.question {
+        Some(_) => table::check_with(rt, streams, arguments.file),
+        None => table::check(rt, streams, arguments.file),
     }
 }
 
@@ -138,7 +136,14 @@ fn tell<R: Env>(rt: &R, streams: Streams, misuse: Misuse) {
 
 // What was asked for.
 fn run<R: Env + Files<File = File>>(rt: &R, streams: Streams) {
-    match requested(rt) {
+    let request = match requested(rt) {
+        Ok(request) => request,
+        Err(misuse) => {
+            tell(rt, streams, misuse);
+            return;
+        }
+    };
+    match request {
         Request::Answer(arguments) => answer_table(rt, streams, arguments),
         Request::AnswerSu(arguments) => answer(
             rt,
@@ -159,7 +164,6 @@ fn run<R: Env + Files<File = File>>(rt: &R, streams: Streams) {
         Request::Version => {
             standard_output::print(streams, b"supertab 0.1.0\n");
         }
-        Request::Wrong(misuse) => tell(rt, streams, misuse),
     }
 }
 

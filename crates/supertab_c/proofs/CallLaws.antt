@@ -1,4 +1,6 @@
 -- The parts of a question as a caller in C gives them, and the call as a whole. Assumes nothing.
+use Rattle.std.specs.Prelude.{None, Option, Some}
+use Rattle.question.specs.declared.Age.{Age}
 use mathlib.Core.Path.{◌≡◌, sym, ap, ◌∙◌}
 use mathlib.Core.Bool.{Bool, true, false}
 use mathlib.Core.List.{List, ◌++◌}
@@ -9,8 +11,6 @@ use lib.IntN.{ℤ}
 use lib.ListN.{length, drop}
 use Rattle.question.specs.Question.{week_minutes}
 use Rattle.question.specs.declared.WeekMinute.{WeekMinute}
-use Rattle.question.specs.declared.LastAuthentication.{LastAuthentication}
-use Rattle.question.specs.declared.LastAuthentication.TheVariants.{Never, Minutes}
 use Rattle.answer.specs.Answer.{result, told_of}
 use Rattle.answer.specs.Meaning.{Asked, answer_of}
 use Rattle.answer.specs.declared.Answer.{Answer}
@@ -30,11 +30,11 @@ module _ (minute : ℕ) where
   minute_past h = let e : min minute week_minutes ≡ week_minutes = omega arith in rw e
 
 module _ {authenticated : Bool} (age : ℤ) where
-  pub last_minutes : SFits w32 age → authenticated ≡ true → Minutes record { 0 = to_z w32 (of_z w32 age) } ≡ last_of authenticated age
+  pub last_minutes : SFits w32 age → authenticated ≡ true → Some record { 0 = to_z w32 (of_z w32 age) } ≡ last_of authenticated age
   unfolding last_of
   last_minutes f e = rw (e, to_z-of_z w32 age f)
 
-  pub last_never : authenticated ≡ false → Never ≡ last_of authenticated age
+  pub last_never : authenticated ≡ false → None ≡ last_of authenticated age
   unfolding last_of
   last_never e = rw e
 
@@ -44,7 +44,7 @@ unfolding call_of
 call_short t a b r h = rw (lt-leb report_length (length r) h)
 
 -- else the answer to the question from the table is told
-module _ (t command user groups host : List ℕ) (minute : ℕ) (authenticated : Bool) (age : ℤ) (args b : List ℕ) (r : List ℤ) {m : WeekMinute} {l : LastAuthentication} where
+module _ (t command user groups host : List ℕ) (minute : ℕ) (authenticated : Bool) (age : ℤ) (args b : List ℕ) (r : List ℤ) {m : WeekMinute} {l : (Option Age)} where
   pub call_told : {x : Answer} {n : ℕ} {b' : List ℕ} {told new : List ℤ}
       → report_length ≤ length r
       → m ≡ minute_of minute

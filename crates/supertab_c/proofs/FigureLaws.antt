@@ -1,50 +1,37 @@
 -- The calls on figures, each as a whole. Assumes nothing.
-use mathlib.Core.Path.{◌≡◌, refl, sym, ◌∙◌}
-use mathlib.Core.Bool.{Bool, true, false}
+use Rattle.std.specs.Prelude.{Ok, Err, Result, is_ok, leb}
+use mathlib.Core.Path.{◌≡◌, refl, sym, ap, ◌∙◌}
+use mathlib.Core.Bool.{true, false}
 use mathlib.Core.List.{List, [], ◌∷◌}
 use Prim.Native.Nat.{ℕ, ◌≤◌}
 use native.Mathlib.Omega.{arith}
 use borrow.Author.Tests.{eq-eqb, ne_eqb}
-use lib.IntN.{ℤ, pos}
+use lib.IntN.{ℤ}
 use lib.ListN.{length, drop, set}
-use Rattle.figures.specs.declared.Feeding.{Feeding}
-use Rattle.figures.specs.declared.Feeding.TheVariants.{Taken, NotWhole, PastLimit}
+use Rattle.figures.specs.declared.FeedFault.{FeedFault}
 use Rattle.figures.specs.Feed.{feed_told}
-use Rattle.figure_numbers.specs.declared.lent.FedNumbers.{FedNumbers}
-use Rattle.figure_numbers.specs.declared.lent.FedNumbers.TheVariants.{Unusable, Fed}
+use Rattle.figure_numbers.specs.declared.lent.Unusable.{Unusable as TooFew}
+use Rattle.figure_numbers.specs.declared.lent.FeedNumbersFault.{FeedNumbersFault}
+use Rattle.figure_numbers.specs.declared.lent.FeedNumbersFault.TheVariants.{Unusable, Feed}
+use Rattle.figure_numbers.specs.Numbers.{numbers_length}
 use Rattle.figure_numbers.specs.Contract.{Clears, FeedsNumbers}
-use Rattle.supertab_c.specs.Report.{counted}
 use Rattle.supertab_c.specs.Call.{short_report}
 use Rattle.supertab_c.specs.Figures.{new_numbers, new_call, fed_told, past_after, fed, tells_fed, feed_call, CallFeeds}
 
 -- ---- new figures
-module _ (old new : List ℤ) {r : Bool} (x : Clears old new r) where
-  pub new_done : r ≡ true → new_numbers 0 new ≡ new_call old
+module _ (old new : List ℤ) {r : Result Unit TooFew} (x : Clears old new r) where
+  pub new_done : {u : Unit} → r ≡ Ok u → new_numbers 0 new ≡ new_call old
   unfolding new_call
-  new_done e = let k = sym x.answer ∙ e in rw (k, x.numbers)
+  new_done e = let k : leb numbers_length (length old) ≡ true = sym x.answer ∙ ap is_ok e in rw (k, x.numbers)
 
-  pub new_short : r ≡ false → new_numbers short_report new ≡ new_call old
+  pub new_short : {u : TooFew} → r ≡ Err u → new_numbers short_report new ≡ new_call old
   unfolding new_call
-  new_short e = let k = sym x.answer ∙ e in rw (k, x.numbers)
+  new_short e = let k : leb numbers_length (length old) ≡ false = sym x.answer ∙ ap is_ok e in rw (k, x.numbers)
 
--- ---- the records past the limit
 -- a number stored at the front
 pub first_set : (old : List ℤ) (x : ℤ) → 1 ≤ length old → set old 0 x ≡ x ∷ drop 1 old
 first_set [] x h = absurd (omega arith)
 first_set (y ∷ old) x h = refl
-
-module _ (old : List ℤ) (a : Feeding) where
-  pub past_none : 1 ≤ length old → a ≡ Taken → set old 0 (pos 0) ≡ past_after (feed_told a).past old
-  unfolding feed_told counted
-  past_none h e = rw e (first_set old (pos 0) h)
-
-  pub past_left : a ≡ NotWhole → old ≡ past_after (feed_told a).past old
-  unfolding feed_told
-  past_left e = rw e
-
-  pub past_many : (n : ℕ) {x : ℤ} → 1 ≤ length old → a ≡ PastLimit n → x ≡ counted n → set old 0 x ≡ past_after (feed_told a).past old
-  unfolding feed_told
-  past_many n {x} h e k = rw (e, ← k) (first_set old x h)
 
 -- ---- a batch
 module _ (old : List ℤ) (batch : List ℕ) (past : List ℤ) where
@@ -52,15 +39,19 @@ module _ (old : List ℤ) (batch : List ℕ) (past : List ℤ) where
   unfolding feed_call
   feed_short e = record { call = rw (eq-eqb (length past) 0 e); figures = λ h. absurd (omega arith) }
 
-  module _ (l : length past ≡ 0 → ⊥) {q : FedNumbers} {new : List ℤ} (x : FeedsNumbers old batch new q) where
+  module _ (l : length past ≡ 0 → ⊥) {q : Result Unit FeedNumbersFault} {new : List ℤ} (x : FeedsNumbers old batch new q) where
     told : feed_call old batch past ≡ fed (fed_told q).number new (past_after (fed_told q).past past)
     unfolding feed_call tells_fed
     told = let a = x.answer in let n = x.numbers in rw (ne_eqb (length past) 0 l, ← a, ← n)
 
-    pub feed_unusable : q ≡ Unusable → CallFeeds old batch past short_report new past
+    pub feed_unusable : {y : FeedNumbersFault} → q ≡ Err y → y ≡ Unusable → CallFeeds old batch past short_report new past
     unfolding fed_told
-    feed_unusable e = record { call = sym (told ∙ rw e); figures = λ h. x.figures }
+    feed_unusable e k = let m : q ≡ Err Unusable = e ∙ ap Err k in record { call = sym (told ∙ rw m); figures = λ h. x.figures }
 
-    pub feed_told_law : (a : Feeding) {n : ℕ} {p : List ℤ} → q ≡ Fed a → n ≡ (feed_told a).number → p ≡ past_after (feed_told a).past past → CallFeeds old batch past n new p
+    pub feed_done : {p : List ℤ} → q ≡ Ok tt → p ≡ past_after (feed_told (Ok tt)).past past → CallFeeds old batch past 0 new p
+    unfolding fed_told feed_told
+    feed_done e ep = record { call = sym (told ∙ rw (e, ← ep)); figures = λ h. x.figures }
+
+    pub feed_refused : {y : FeedNumbersFault} {f : FeedFault} {n : ℕ} {p : List ℤ} → q ≡ Err y → y ≡ Feed f → n ≡ (feed_told (Err f)).number → p ≡ past_after (feed_told (Err f)).past past → CallFeeds old batch past n new p
     unfolding fed_told
-    feed_told_law a e en ep = record { call = sym (told ∙ rw (e, ← en, ← ep)); figures = λ h. x.figures }
+    feed_refused {y} {f} e k en ep = let m : q ≡ Err (Feed f) = e ∙ ap Err k in record { call = sym (told ∙ rw (m, ← en, ← ep)); figures = λ h. x.figures }

@@ -1,9 +1,8 @@
 -- What the call for C gives: its number, and what the buffer and the report hold after it (include/supertab.h).
-use Rattle.std.specs.Prelude.{ℕ, min, Bool, cond, List, ◌++◌, leb, ℤ, length, drop}
+use Rattle.question.specs.declared.Age.{Age}
+use Rattle.std.specs.Prelude.{ℕ, min, Bool, cond, List, ◌++◌, leb, ℤ, length, drop, None, Option, Some}
 use Rattle.question.specs.Question.{week_minutes}
 use Rattle.question.specs.declared.WeekMinute.{WeekMinute}
-use Rattle.question.specs.declared.LastAuthentication.{LastAuthentication}
-use Rattle.question.specs.declared.LastAuthentication.TheVariants.{Never, Minutes}
 use Rattle.answer.specs.Answer.{Outcome, told_by}
 use Rattle.answer.specs.Meaning.{Asked, answer_of}
 use Rattle.supertab_c.specs.Report.{report_length, report_of}
@@ -13,8 +12,8 @@ unfoldable pub minute_of : ℕ → WeekMinute
 minute_of minute = record { 0 = min minute week_minutes }
 
 -- the age is not looked at where the user never gave the password
-unfoldable pub last_of : Bool → ℤ → LastAuthentication
-last_of authenticated age = cond authenticated (Minutes (record { 0 = age })) Never
+unfoldable pub last_of : Bool → ℤ → (Option Age)
+last_of authenticated age = cond authenticated (Some (record { 0 = age })) None
 
 -- the parts of a question, by what a caller in C gives
 unfoldable pub asked_by : (command user groups host : List ℕ) (minute : ℕ) (authenticated : Bool) (age : ℤ) (args : List ℕ) → Asked

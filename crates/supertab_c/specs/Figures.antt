@@ -1,10 +1,9 @@
 -- What the calls for C on figures give (02 (x), include/supertab.h).
-use Rattle.std.specs.Prelude.{ℕ, ◌≤◌, ◌≡◌, cond, List, ◌∷◌, eqb, leb, ℤ, length, take, drop}
-use Rattle.std.proofs.Math.Option.{Option, none, some}
+use Rattle.std.specs.Prelude.{ℕ, ◌≤◌, ◌≡◌, cond, List, ◌∷◌, eqb, leb, ℤ, length, take, drop, None, Option, Some, Result, Ok, Err}
 use Rattle.figures.specs.Figures.{record_limit, figures_of}
 use Rattle.figures.specs.Feed.{records_after, BatchTold, feed_told}
-use Rattle.figure_numbers.specs.declared.lent.FedNumbers.{FedNumbers}
-use Rattle.figure_numbers.specs.declared.lent.FedNumbers.TheVariants.{Unusable, Fed}
+use Rattle.figure_numbers.specs.declared.lent.FeedNumbersFault.{FeedNumbersFault}
+use Rattle.figure_numbers.specs.declared.lent.FeedNumbersFault.TheVariants.{Unusable, Feed}
 use Rattle.figure_numbers.specs.Numbers.{numbers_length, numbers_of}
 use Rattle.figure_numbers.specs.Contract.{cleared, numbers_answer, numbers_fed}
 use Rattle.supertab_c.specs.Report.{counted}
@@ -26,14 +25,15 @@ new_call l = new_numbers (cond (leb numbers_length (length l)) 0 short_report) (
 
 -- ---- a batch
 -- the number of every answer, and how many records lie past the limit where the batch was looked at
-unfoldable pub fed_told : FedNumbers → BatchTold
-fed_told Unusable = record { number = short_report; past = none }
-fed_told (Fed a) = feed_told a
+unfoldable pub fed_told : Result Unit FeedNumbersFault → BatchTold
+fed_told (Err Unusable) = record { number = short_report; past = None }
+fed_told (Err (Feed f)) = feed_told (Err f)
+fed_told (Ok done) = feed_told (Ok done)
 
 -- what is told of the records past the limit stands at the front of the lent numbers, whose later ones stay
 abbrev pub past_after : Option ℕ → List ℤ → List ℤ
-past_after (some n) old = counted n ∷ drop 1 old
-past_after none old = old
+past_after (Some n) old = counted n ∷ drop 1 old
+past_after None old = old
 
 -- the result of the call, the figures and the records refused
 pub record FeedCall : Type 0 where
@@ -46,7 +46,7 @@ abbrev pub fed : ℕ → List ℤ → List ℤ → FeedCall
 fed n l p = record { number = n; figures = l; refused = p }
 
 -- the answer to a batch, as the call tells it
-unfoldable pub tells_fed : FedNumbers → List ℤ → List ℕ → List ℤ → FeedCall
+unfoldable pub tells_fed : Result Unit FeedNumbersFault → List ℤ → List ℕ → List ℤ → FeedCall
 tells_fed a old batch past = fed (fed_told a).number (numbers_fed a old batch) (past_after (fed_told a).past past)
 
 -- 255 first, where there is no room to tell the records past the limit, and then nothing is written

@@ -1,8 +1,6 @@
 -- What the calls for C on log records give (02 (ii), include/supertab.h).
-use Rattle.std.specs.Prelude.{ℕ, Bool, cond, List, [], ◌∷◌, ◌++◌, leb, ℤ, pos, length, drop}
-use Rattle.std.proofs.Math.Option.{Option, none, some}
-use Rattle.question.specs.declared.LastAuthentication.{LastAuthentication}
-use Rattle.question.specs.declared.LastAuthentication.TheVariants.{Never, Minutes}
+use Rattle.question.specs.declared.Age.{Age}
+use Rattle.std.specs.Prelude.{ℕ, Bool, cond, List, [], ◌∷◌, ◌++◌, leb, ℤ, pos, length, drop, None, Option, Some}
 use Rattle.record.specs.declared.Fields.{Fields}
 use Rattle.record.specs.Write.{written_of, bytes_after, written_number}
 use Rattle.record.specs.Read.{record_in, Told, record_told}
@@ -33,14 +31,14 @@ abbrev pub fields_length : ℕ
 fields_length = 6
 
 -- 0 where the user had never given the password
-unfoldable pub authenticated_of : LastAuthentication → ℤ
-authenticated_of Never = pos 0
-authenticated_of (Minutes a) = pos 1
+unfoldable pub authenticated_of : (Option Age) → ℤ
+authenticated_of None = pos 0
+authenticated_of (Some a) = pos 1
 
 -- the minutes since then
-unfoldable pub age_of : LastAuthentication → ℤ
-age_of Never = pos 0
-age_of (Minutes a) = a.0
+unfoldable pub age_of : (Option Age) → ℤ
+age_of None = pos 0
+age_of (Some a) = a.0
 
 -- the fields as numbers
 unfoldable pub field_numbers : Fields → List ℤ
@@ -57,8 +55,8 @@ read_numbers n s = record { number = n; fields = s }
 
 -- what is shown stands at the front of the lent numbers, whose later ones stay; a refusal shows nothing
 abbrev pub numbers_after : Option Fields → List ℤ → List ℤ
-numbers_after (some f) old = field_numbers f ++ drop fields_length old
-numbers_after none old = old
+numbers_after (Some f) old = field_numbers f ++ drop fields_length old
+numbers_after None old = old
 
 -- what the reader tells
 unfoldable pub tells_record : Told → List ℤ → Numbers

@@ -1,11 +1,8 @@
 -- The report of the call for C: 24 numbers beside the number of the answer (include/supertab.h).
-use Rattle.std.specs.Prelude.{ℕ, ◌-◌, min, Bool, cond, List, ◌∷◌, ◌++◌, ℤ, pos, replicate}
+use Rattle.std.specs.Prelude.{ℕ, ◌-◌, min, Bool, cond, List, ◌∷◌, ◌++◌, ℤ, pos, replicate, None, Option, Some}
 use Rattle.fault.specs.declared.Cause.{Cause}
 use Rattle.fault.specs.declared.Cause.TheVariants.{LineLength, Indent, OpenQuote, FieldCount, Variable, FieldLength, Pattern, PatternSize, NameLength, TextLength, IdLength, IfDepth, Alternative, TimeItem, OptionName, OptionValue, PatternKind, EntryTooEarly, ColonWord, DefineName, Operator, LatePair, Path, SurplusField, MissingPart, OptionTwice, TooManyNames}
-use Rattle.options.specs.declared.timeout.Timeout.{Timeout}
-use Rattle.options.specs.declared.timeout.Timeout.TheVariants.{Unset, Minutes}
 use Rattle.options.specs.declared.span.Span.{Span}
-use Rattle.options.specs.declared.span.Span.TheVariants.{Nothing, Between}
 use Rattle.line.specs.Line.{table_limit}
 use Rattle.answer.specs.declared.Granted.{Granted}
 use Rattle.answer.specs.declared.Answer.{Answer}
@@ -32,29 +29,29 @@ unfoldable pub bit : Bool → ℤ
 bit on = cond on (pos 1) (pos 0)
 
 -- whether a timeout is set
-unfoldable pub timeout_set : Timeout → ℤ
-timeout_set Unset = pos 0
-timeout_set (Minutes m) = pos 1
+unfoldable pub timeout_set : (Option ℤ) → ℤ
+timeout_set None = pos 0
+timeout_set (Some m) = pos 1
 
 -- its minutes
-unfoldable pub timeout_minutes : Timeout → ℤ
-timeout_minutes Unset = pos 0
-timeout_minutes (Minutes m) = m
+unfoldable pub timeout_minutes : (Option ℤ) → ℤ
+timeout_minutes None = pos 0
+timeout_minutes (Some m) = m
 
 -- whether nargs is set
-unfoldable pub nargs_set : Span → ℤ
-nargs_set Nothing = pos 0
-nargs_set (Between m n) = pos 1
+unfoldable pub nargs_set : Option Span → ℤ
+nargs_set None = pos 0
+nargs_set (Some s) = pos 1
 
 -- the least number of arguments
-unfoldable pub nargs_low : Span → ℤ
-nargs_low Nothing = pos 0
-nargs_low (Between m n) = counted m
+unfoldable pub nargs_low : Option Span → ℤ
+nargs_low None = pos 0
+nargs_low (Some s) = counted s.low
 
 -- the most arguments
-unfoldable pub nargs_high : Span → ℤ
-nargs_high Nothing = pos 0
-nargs_high (Between m n) = counted n
+unfoldable pub nargs_high : Option Span → ℤ
+nargs_high None = pos 0
+nargs_high (Some s) = counted s.high
 
 -- the causes, counted from 1 in their order
 unfoldable pub cause_index : Cause → ℤ

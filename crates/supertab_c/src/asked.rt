@@ -2,24 +2,20 @@
 ghost use Rattle.std.specs.Prelude.{◌≡◌};
 ghost use Rattle.supertab_c.specs.Call.{minute_of, last_of};
 
-use question::{Age, LastAuthentication, WeekMinute};
+use question::{Age, WeekMinute};
 
 // A minute past the week's end is handed on as the first such one, so that the question is bad.
+#[tactic(auto, unfolding(crate::specs::Call::minute_of))]
 pub fn minute_of(minute: u32) -> WeekMinute
     ensures { result ≡ minute_of minute }
 {
-    if minute < WeekMinute::LIMIT as u32 {
-        return WeekMinute(minute as u16);
-    }
-    WeekMinute(WeekMinute::LIMIT)
+    WeekMinute(minute.min(u32::from(WeekMinute::LIMIT)) as u16)
 }
 
 // The age counts only where the user gave the password at all.
-pub fn last_of(authenticated: bool, age: i32) -> LastAuthentication
+#[tactic(auto, unfolding(crate::specs::Call::last_of))]
+pub fn last_of(authenticated: bool, age: i32) -> Option<Age>
     ensures { result ≡ last_of authenticated age }
 {
-    if authenticated {
-        return LastAuthentication::Minutes(Age(age));
-    }
-    LastAuthentication::Never
+    if authenticated { Some(Age(age)) } else { None }
 }

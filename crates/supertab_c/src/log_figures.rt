@@ -4,18 +4,19 @@ ghost use Rattle.figures.specs.Feed.{feed_told};
 ghost use Rattle.supertab_c.specs.Figures.{new_numbers, new_call, past_after, CallFeeds};
 
 use super::report::{Report, counted_as};
-use figure_numbers::lent::{FedNumbers, clear, feed};
-use figures::Feeding;
+use figure_numbers::lent::{FeedNumbersFault, clear, feed};
+use figures::FeedFault;
 
 // How many records lie past the limit, at the front of the lent numbers; nothing where the batch was not looked at.
-fn put_past(answer: Feeding, refused: &mut [i64])
+#[tactic(auto, unfolding(figures::specs::Feed::feed_told, crate::specs::Report::counted))]
+fn put_past(fed: Result<(), FeedFault>, refused: &mut [i64])
     requires { 1 ≤ length refused.old }
-    ensures { refused.new ≡ past_after (feed_told answer).past refused.old }
+    ensures { refused.new ≡ past_after (feed_told fed).past refused.old }
 {
-    match answer {
-        Feeding::Taken => refused[0] = 0,
-        Feeding::NotWhole => {}
-        Feeding::PastLimit(n) => refused[0] = counted_as(n as usize),
+    match fed {
+        Ok(()) => refused[0] = 0,
+        Err(FeedFault::NotWhole) => {}
+        Err(FeedFault::PastLimit(n)) => refused[0] = counted_as(n as usize),
     }
 }
 
@@ -24,10 +25,10 @@ fn put_past(answer: Feeding, refused: &mut [i64])
 pub extern "C" fn supertab_figures_new(figures: &mut [i64]) -> u8
     ensures { new_numbers result figures.new ≡ new_call figures.old }
 {
-    if clear(figures) {
-        return 0;
+    match clear(figures) {
+        Ok(()) => 0,
+        Err(_) => Report::SHORT,
     }
-    Report::SHORT
 }
 
 // Feeds a batch of records to figures: the result is 0, the number of the refusal, or 255.
@@ -43,10 +44,14 @@ pub extern "C" fn supertab_figures_feed(
         return Report::SHORT;
     }
     match feed(figures, batch) {
-        FedNumbers::Unusable => Report::SHORT,
-        FedNumbers::Fed(answer) => {
-            put_past(answer, refused);
-            answer.number()
+        Ok(()) => {
+            put_past(Ok(()), refused);
+            0
         }
+        Err(FeedNumbersFault::Feed(fault)) => {
+            put_past(Err(fault), refused);
+            fault.number()
+        }
+        Err(FeedNumbersFault::Unusable) => Report::SHORT,
     }
 }

@@ -4,10 +4,10 @@ ghost use Rattle.supertab_c.specs.Record.{fields_length, authenticated_of, age_o
 
 use super::asked::{last_of, minute_of};
 use super::report::{Report, as_bit};
-use question::LastAuthentication;
+use question::Age;
+use record::Fields;
 use record::read::read_record;
 use record::write::write_record;
-use record::{Fields, Record};
 
 // The numbers that tell the fields of a record.
 #[derive(Drop)]
@@ -32,35 +32,35 @@ impl FieldNumbers {
 }
 
 // Whether the user had given the password at all.
-fn is_authenticated(age: LastAuthentication) -> i64
+#[tactic(auto, unfolding(crate::specs::Record::authenticated_of, crate::specs::Report::bit))]
+fn is_authenticated(age: Option<Age>) -> i64
     ensures { result ≡ authenticated_of age }
 {
-    match age {
-        LastAuthentication::Never => 0,
-        LastAuthentication::Minutes(_) => 1,
-    }
+    as_bit(age.is_some())
 }
 
 // How many minutes ago; 0 where it never was.
-fn minutes_since(age: LastAuthentication) -> i64
+#[tactic(auto, unfolding(crate::specs::Record::age_of))]
+fn minutes_since(age: Option<Age>) -> i64
     ensures { result ≡ age_of age }
 {
     match age {
-        LastAuthentication::Never => 0,
-        LastAuthentication::Minutes(minutes) => minutes.0 as i64,
+        Some(minutes) => i64::from(minutes.0),
+        None => 0,
     }
 }
 
 // The numbers of stored fields at the front of those lent; later ones stay.
+#[tactic(auto, unfolding(crate::specs::Record::field_numbers))]
 fn put_fields(stored: Fields, fields: &mut [i64])
     requires { fields_length ≤ length fields.old }
     ensures { fields.new ≡ field_numbers stored ++ drop fields_length fields.old }
 {
     let minute = stored.minute;
     let age = stored.age;
-    fields[FieldNumbers::NUMBER] = stored.number as i64;
-    fields[FieldNumbers::LINE] = stored.line as i64;
-    fields[FieldNumbers::MINUTE] = minute.0 as i64;
+    fields[FieldNumbers::NUMBER] = i64::from(stored.number);
+    fields[FieldNumbers::LINE] = i64::from(stored.line);
+    fields[FieldNumbers::MINUTE] = i64::from(minute.0);
     fields[FieldNumbers::AUTH] = as_bit(stored.auth);
     fields[FieldNumbers::AUTHENTICATED] = is_authenticated(age);
     fields[FieldNumbers::AGE] = minutes_since(age);
@@ -81,11 +81,14 @@ pub extern "C" fn supertab_record_write(
 {
     let week_minute = minute_of(minute);
     let last = last_of(authenticated, age);
-    let written = write_record(number, line, week_minute, auth, last, out);
-    written.number()
+    match write_record(number, line, week_minute, auth, last, out) {
+        Ok(()) => 0,
+        Err(fault) => fault.number(),
+    }
 }
 
 // Reads a record: the result is 0 or the number of the refusal; the fields are told by 0 alone.
+#[tactic(auto, unfolding(crate::specs::Record::read_call, crate::specs::Record::tells_record, record::specs::Read::record_told))]
 #[unsafe(no_mangle)]
 pub extern "C" fn supertab_record_read(bytes: &[u8], fields: &mut [i64]) -> u8
     ensures { read_numbers result fields.new ≡ read_call bytes.now fields.old }
@@ -93,12 +96,11 @@ pub extern "C" fn supertab_record_read(bytes: &[u8], fields: &mut [i64]) -> u8
     if fields.len() < FieldNumbers::LENGTH {
         return Report::SHORT;
     }
-    let record = read_record(bytes);
-    match record {
-        Record::Stored(stored) => {
+    match read_record(bytes) {
+        Ok(stored) => {
             put_fields(stored, fields);
             0
         }
-        _ => record.number(),
+        Err(fault) => fault.number(),
     }
 }

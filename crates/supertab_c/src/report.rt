@@ -6,7 +6,6 @@ use answer::{Answer, Granted};
 use fault::Cause;
 use line::whole::WholeText;
 use options::span::Span;
-use options::timeout::Timeout;
 
 #[derive(Drop)]
 pub struct Report;
@@ -49,76 +48,55 @@ impl Report {
 }
 
 // A count as a number of the report. None that the call tells is above the most that an i64 takes.
+#[tactic(auto, unfolding(crate::specs::Report::counted))]
 pub fn counted_as(n: usize) -> i64
     ensures { result ≡ counted n }
 {
-    if n > 9223372036854775807 {
-        return 9223372036854775807;
-    }
-    n as i64
+    i64::try_from(n).unwrap_or(i64::MAX)
 }
 
 // Where the zero byte of a string stands, by the string's end just after it.
+#[tactic(auto, unfolding(crate::specs::Report::zero_place))]
 fn zero_before(end: usize) -> i64
     ensures { result ≡ zero_place end }
 {
-    if end == 0 {
-        return 0;
-    }
-    counted_as(end - 1)
+    counted_as(end.saturating_sub(1))
 }
 
+#[tactic(auto, unfolding(crate::specs::Report::bit))]
 pub fn as_bit(on: bool) -> i64
     ensures { result ≡ bit on }
 {
-    if on {
-        return 1;
-    }
-    0
+    i64::from(on)
 }
 
-fn timeout_is_set(timeout: Timeout) -> i64
-    ensures { result ≡ timeout_set timeout }
-{
-    match timeout {
-        Timeout::Unset => 0,
-        Timeout::Minutes(_) => 1,
-    }
-}
-
-fn minutes_of(timeout: Timeout) -> i64
+#[tactic(auto, unfolding(crate::specs::Report::timeout_minutes))]
+fn minutes_of(timeout: Option<i32>) -> i64
     ensures { result ≡ timeout_minutes timeout }
 {
     match timeout {
-        Timeout::Unset => 0,
-        Timeout::Minutes(m) => m as i64,
+        Some(minutes) => i64::from(minutes),
+        None => 0,
     }
 }
 
-fn nargs_is_set(nargs: Span) -> i64
-    ensures { result ≡ nargs_set nargs }
-{
-    match nargs {
-        Span::Nothing => 0,
-        Span::Between(_, _) => 1,
-    }
-}
-
-fn low_of(nargs: Span) -> i64
+#[tactic(auto, unfolding(crate::specs::Report::nargs_low))]
+fn low_of(nargs: Option<Span>) -> i64
     ensures { result ≡ nargs_low nargs }
 {
     match nargs {
-        Span::Nothing => 0,
-        Span::Between(m, _) => counted_as(m),
+        Some(span) => counted_as(span.low),
+        None => 0,
     }
 }
 
-fn high_of(nargs: Span) -> i64
+#[tactic(auto, unfolding(crate::specs::Report::nargs_high))]
+fn high_of(nargs: Option<Span>) -> i64
     ensures { result ≡ nargs_high nargs }
 {
     match nargs {
-        Span::Nothing => 0,
-        Span::Between(_, n) => counted_as(n),
+        Some(span) => counted_as(span.high),
+        None => 0,
     }
 }
 
@@ -130,6 +108,7 @@ fn index_of(cause: Cause) -> i64
 }
 
 // The numbers of a permit.
+#[tactic(auto, unfolding(crate::specs::Report::grant_numbers, crate::specs::Report::timeout_set, crate::specs::Report::nargs_set, crate::specs::Report::bit))]
 fn of_grant(g: Granted) -> [i64; Report::LENGTH]
     ensures { result ≡ grant_numbers g }
 {
@@ -139,9 +118,9 @@ fn of_grant(g: Granted) -> [i64; Report::LENGTH]
     numbers[Report::LINE_OR_PLACE] = counted_as(g.line);
     numbers[Report::WRITTEN] = counted_as(g.egid);
     numbers[Report::AUTH] = as_bit(g.auth);
-    numbers[Report::TIMEOUT_SET] = timeout_is_set(timeout);
+    numbers[Report::TIMEOUT_SET] = as_bit(timeout.is_some());
     numbers[Report::TIMEOUT] = minutes_of(timeout);
-    numbers[Report::NARGS_SET] = nargs_is_set(nargs);
+    numbers[Report::NARGS_SET] = as_bit(nargs.is_some());
     numbers[Report::NARGS_LOW] = low_of(nargs);
     numbers[Report::NARGS_HIGH] = high_of(nargs);
     numbers[Report::PATH_END] = zero_before(g.path);
@@ -153,6 +132,7 @@ fn of_grant(g: Granted) -> [i64; Report::LENGTH]
 }
 
 // The numbers of an answer that tells a line or a place, and a cause, which is 0 where there is none.
+#[tactic(auto, unfolding(crate::specs::Report::place_numbers))]
 fn of_place(place: usize, cause: i64) -> [i64; Report::LENGTH]
     ensures { result ≡ place_numbers place cause }
 {
@@ -162,6 +142,7 @@ fn of_place(place: usize, cause: i64) -> [i64; Report::LENGTH]
     numbers
 }
 
+#[tactic(auto, unfolding(crate::specs::Report::report_of))]
 pub fn numbers_of(answer: Answer) -> [i64; Report::LENGTH]
     ensures { result ≡ report_of answer }
 {
@@ -186,10 +167,5 @@ pub fn put_numbers(numbers: [i64; Report::LENGTH], report: &mut [i64])
     requires { report_length ≤ length report.old }
     ensures { report.new ≡ numbers ++ drop report_length report.old }
 {
-    let mut i = 0;
-    while i < Report::LENGTH {
-        let n = numbers[i];
-        report[i] = n;
-        i += 1;
-    }
+    report[..Report::LENGTH].copy_from_slice(&numbers);
 }

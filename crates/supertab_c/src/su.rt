@@ -16,6 +16,7 @@ pub struct SuTold {
 }
 
 // Only refusals have their numbers from the papers.
+#[tactic(auto, unfolding(crate::specs::Su::su_told, suauth::specs::Answer::told_of))]
 fn told_by(answer: SuAnswer) -> SuTold
     ensures { result ≡ su_told (told_of answer) }
 {

@@ -1,17 +1,17 @@
 -- The control lines of a table one after the other: what is kept of the lines so far, and one turn of the loop over them.
+use Rattle.std.specs.Option.{option_map, option_or}
+use Rattle.std.specs.Prelude.{Err, None, Ok, Option, Result, Some, is_some}
+use Rattle.question.specs.declared.Age.{Age}
 use mathlib.Core.Path.{◌≡◌, refl, sym, ap, ◌∙◌}
 use mathlib.Core.Bool.{Bool, true, false, not}
 use mathlib.Core.List.{List, []}
-use mathlib.Core.Option.{some, or_else, map}
 use Prim.Native.Nat.{ℕ, ◌+◌, ◌≤◌, ◌<◌}
 use lib.ListN.{length, take, drop}
 use Rattle.text.proofs.Laws.{clash}
-use Rattle.fault.specs.Fault.{Reading, fault, value}
 use Rattle.fault.specs.declared.Cause.{Cause}
 use Rattle.question.specs.Question.{Question}
 use Rattle.question.specs.Contract.{strings_in}
 use Rattle.question.specs.declared.WeekMinute.{WeekMinute}
-use Rattle.question.specs.declared.LastAuthentication.{LastAuthentication}
 use Rattle.line.specs.Line.{backslash}
 use Rattle.line.specs.Fold.{of_line, at_beginning, faulty, cut}
 use Rattle.line.specs.Scan.{most_joined, most_fields}
@@ -31,115 +31,102 @@ use Rattle.reader.specs.State.{State, decided_at, start, scope_of, with_definiti
 use Rattle.reader.specs.Colon.{define_line, global_line}
 use Rattle.reader.specs.Read.{judge_for, line_read}
 use Rattle.reader.specs.Contract.{Keeps, Changes, GlobalChanges, LineDefines, scope_for}
-use Rattle.reader.specs.declared.define.DefineRead.{DefineRead}
-use Rattle.reader.specs.declared.define.DefineRead.TheVariants.{Fault as DefineFault, At as DefineAt}
+use Rattle.reader.specs.declared.define.Definition.{Definition as Placed}
+use Rattle.entry.specs.declared.entry.PathPlace.{PathPlace}
 use Rattle.reader.specs.declared.state.Reader.{Reader}
-use Rattle.reader.specs.declared.state.Changed.{Changed}
-use Rattle.reader.specs.declared.state.LineOutcome.TheVariants.{Fault as LineFault, Good as LineGood}
 use Rattle.reader.proofs.ReadLaws.{global_change}
 use Rattle.table_lines.specs.declared.Decision.{Decision as CodeDecision}
-use Rattle.table_lines.specs.declared.LinesRead.{LinesRead}
 use Rattle.table_lines.specs.declared.action.LineAction.{LineAction}
-use Rattle.table_lines.specs.declared.action.LineAction.TheVariants.{Fault, Nothing, Define, Global, Decide}
+use Rattle.table_lines.specs.declared.action.LineAction.TheVariants.{Nothing, Define, Global, Decide}
 use Rattle.table_lines.specs.Lines.{lines_give}
-use Rattle.table_lines.specs.Contract.{AskedWith, decided_by, decided_in, refused_by, ended_by, is_made, Stands, DoesIn, LineDoes}
-use Rattle.table_lines.proofs.DefineLaws.{define_fault, define_stored}
-
--- ---- what a `:global` comes to
-changed_fault : (args : List (List ℕ)) (o : Reading Cause State) {r : Changed} {c : Cause} → Changes args o r → r.outcome ≡ LineFault c → o ≡ fault c
-changed_fault args (fault d) {r} {c} h e = let z : LineFault d ≡ LineFault c = sym h.changes ∙ e in cc
-changed_fault args (value s) {r} h e = clash (let z = h.changes.0 in cc)
-
-changed_good : (args : List (List ℕ)) (o : Reading Cause State) {r : Changed} → Changes args o r → r.outcome ≡ LineGood → (s : State) × (o ≡ value s) × Keeps args r.reader s
-changed_good args (fault d) {r} h e = clash (let z = h.changes in cc)
-changed_good args (value s) h e = (s, refl, h.changes.1)
-
--- ---- a refused line
-pub refused_gives : (q : Question) (t path : List ℕ) {r : LinesRead} {c : Cause} {p : ℕ} {d : CodeDecision} → r ≡ refused_by c p d → lines_give q t ≡ fault (faulty c p) → lines_give q t ≡ ended_by (decided_in r.decision path) r.outcome
-refused_gives q t path e g = rw e g
+use Rattle.table_lines.specs.Contract.{AskedWith, decided_in, is_made, Stands, DoesIn, LineDoes}
+use Rattle.table_lines.proofs.DefineLaws.{define_stored}
 
 -- ---- the lines so far
 -- what is kept at a place, behind the lines so far: it stands for a state from which the rest of the lines gives what the whole table gives
-pub record SoFar (q : Question) (t : List ℕ) (v : Variables) (r : Reader) (d : CodeDecision) (path : List ℕ) (at number : ℕ) : Type 0 where
+pub record SoFar (q : Question) (t : List ℕ) (v : Variables) (r : Reader) (d : Option CodeDecision) (path : List ℕ) (at number : ℕ) : Type 0 where
   pub state : State
   pub variables : state.definitions ≡ definitions_of v
   pub keeps : Keeps q.args r state
   pub decided : decided_in d path ≡ state.decision
   pub rest : outcome_from backslash (line_read q) (λ s. s.decision) t at number state ≡ lines_give q t
 
-pub so_start : (q : Question) (t : List ℕ) {v : Variables} {r : Reader} {d : CodeDecision} {path : List ℕ} → definitions_of v ≡ [] → Keeps q.args r start → d.made ≡ false → SoFar q t v r d path 0 1
+pub so_start : (q : Question) (t : List ℕ) {v : Variables} {r : Reader} {path : List ℕ} → definitions_of v ≡ [] → Keeps q.args r start → SoFar q t v r None path 0 1
 unfolding start
-so_start q t e k m = record { state = start; variables = sym e; keeps = k; decided = rw m; rest = from_start backslash (line_read q) (λ s. s.decision) t start }
+so_start q t e k = record { state = start; variables = sym e; keeps = k; decided = refl; rest = from_start backslash (line_read q) (λ s. s.decision) t start }
 
-module _ {q : Question} {t : List ℕ} {v : Variables} {r : Reader} {d : CodeDecision} {path : List ℕ} {at number : ℕ} (f : SoFar q t v r d path at number) where
+module _ {q : Question} {t : List ℕ} {v : Variables} {r : Reader} {d : Option CodeDecision} {path : List ℕ} {at number : ℕ} (f : SoFar q t v r d path at number) where
   -- no line is left
-  pub so_end : length t ≤ at → lines_give q t ≡ value (decided_in d path)
-  so_end h = sym f.rest ∙ from_end backslash (line_read q) (λ s. s.decision) t at number f.state h ∙ ap value (sym f.decided)
+  pub so_end : length t ≤ at → lines_give q t ≡ Ok (decided_in d path)
+  so_end h = sym f.rest ∙ from_end backslash (line_read q) (λ s. s.decision) t at number f.state h ∙ ap Ok (sym f.decided)
 
   -- a line is left that does not end
-  pub so_cut : at < length t → ((n : ℕ) → lines_from backslash t at n ≡ []) → lines_give q t ≡ fault (cut at)
+  pub so_cut : at < length t → ((n : ℕ) → lines_from backslash t at n ≡ []) → lines_give q t ≡ Err (cut at)
   so_cut h e = sym f.rest ∙ from_cut backslash (line_read q) (λ s. s.decision) t at number f.state h (e number)
 
   -- the code's parts stand for the state
-  so_stands : Stands f.state v.bytes v.sizes v.count r.shell (not d.made)
-  so_stands = record { variables = f.variables; kind = sym f.keeps.shell; judged = rw (← f.decided) (go d.made refl) }
+  so_stands : (judging : Bool) → is_some d ≡ not judging → Stands f.state v.bytes v.sizes v.count r.shell judging
+  so_stands judging j = record { variables = f.variables; kind = sym f.keeps.shell; judged = rw (← f.decided) (go d judging j) }
     where
-      go : (b : Bool) → d.made ≡ b → not d.made ≡ not (is_made (decided_in d path))
-      go true w = rw w
-      go false w = rw w
+      go : (o : Option CodeDecision) (b : Bool) → is_some o ≡ not b → b ≡ not (is_made (decided_in o path))
+      go None true h = refl
+      go None false h = clash cc
+      go (Some x) true h = clash cc
+      go (Some x) false h = refl
 
   module _ {e count : ℕ} (l : LineEnds backslash t at e count) where
-    stopped : {c : Cause} → line_read q f.state (line_at t at e number) ≡ fault (of_line c) → lines_give q t ≡ fault (faulty c at)
+    stopped : {c : Cause} → line_read q f.state (line_at t at e number) ≡ Err (of_line c) → lines_give q t ≡ Err (faulty c at)
     stopped g = sym f.rest ∙ from_beginning backslash (line_read q) (λ s. s.decision) t at number f.state l g
 
-    onward : {s : State} {v' : Variables} {r' : Reader} {d' : CodeDecision} {path' : List ℕ} → line_read q f.state (line_at t at e number) ≡ value s → s.definitions ≡ definitions_of v' → Keeps q.args r' s → decided_in d' path' ≡ s.decision → SoFar q t v' r' d' path' e (number + count)
+    onward : {s : State} {v' : Variables} {r' : Reader} {d' : Option CodeDecision} {path' : List ℕ} → line_read q f.state (line_at t at e number) ≡ Ok s → s.definitions ≡ definitions_of v' → Keeps q.args r' s → decided_in d' path' ≡ s.decision → SoFar q t v' r' d' path' e (number + count)
     onward {s} g x k m = record { state = s; variables = x; keeps = k; decided = m; rest = sym (from_on backslash (line_read q) (λ y. y.decision) t at number f.state l g) ∙ f.rest }
 
-    module _ {command user groups host : List ℕ} {minute : WeekMinute} {last : LastAuthentication} {args : List ℕ} (k : AskedWith q command user groups host minute last args) {old text former ends : List ℕ} {x : LineAction} (a : LineDoes (line_at t at e number).bytes old text former ends r.shell (not d.made) command user groups host minute v.bytes v.sizes v.count x) (room : length old ≡ most_joined) (places : length former ≡ most_fields) where
+    module _ {command user groups host : List ℕ} {minute : WeekMinute} {last : (Option Age)} {args : List ℕ} (k : AskedWith q command user groups host minute last args) {old text former ends : List ℕ} {x : Result LineAction Cause} {judging : Bool} (j : is_some d ≡ not judging) (a : LineDoes (line_at t at e number).bytes old text former ends r.shell judging command user groups host minute v.bytes v.sizes v.count x) (room : length old ≡ most_joined) (places : length former ≡ most_fields) where
       -- what the line does with the state
-      does : {y : LineAction} → x ≡ y → DoesIn q f.state (line_at t at e number) text ends y
-      does z = rw z at (a.does room places q k f.state so_stands (line_at t at e number) refl)
+      does : DoesIn q f.state (line_at t at e number) text ends x
+      does = a.does room places q k f.state (so_stands judging j) (line_at t at e number) refl
 
-      pub turn_fault : {c : Cause} → x ≡ Fault c → lines_give q t ≡ fault (faulty c at)
-      turn_fault z = stopped (does z)
+      pub turn_fault : {c : Cause} → x ≡ Err c → lines_give q t ≡ Err (faulty c at)
+      turn_fault z = stopped (rw z at does)
 
-      pub turn_nothing : x ≡ Nothing → SoFar q t v r d path e (number + count)
-      turn_nothing z = onward (does z) f.variables f.keeps f.decided
+      pub turn_nothing : x ≡ Ok Nothing → SoFar q t v r d path e (number + count)
+      turn_nothing z = onward (rw z at does) f.variables f.keeps f.decided
 
       scope_is : scope_for user host f.state ≡ scope_of q f.state
       scope_is = rw (k.its_user, k.its_host)
 
       -- ---- `:define`
-      module _ {n i : ℕ} (z : x ≡ Define n i) {name bytes : List ℕ} {y : DefineRead} (h : LineDefines user host v.bytes v.sizes v.count (drop i (fields_in text ends n)) name bytes y) where
-        defining : {o : Reading Cause State} → define_line (scope_for user host f.state) f.state (drop i (fields_in text ends n)) ≡ o → line_read q f.state (line_at t at e number) ≡ at_beginning o
-        defining o = does z ∙ ap at_beginning (ap (λ sc. define_line sc f.state (drop i (fields_in text ends n))) (sym scope_is) ∙ o)
+      module _ {n i : ℕ} (z : x ≡ Ok (Define n i)) where
+        defining : {o : Result State Cause} → define_line (scope_for user host f.state) f.state (drop i (fields_in text ends n)) ≡ o → line_read q f.state (line_at t at e number) ≡ at_beginning o
+        defining o = rw z at does ∙ ap at_beginning (ap (λ sc. define_line sc f.state (drop i (fields_in text ends n))) (sym scope_is) ∙ o)
 
-        pub turn_define_fault : {c : Cause} → y ≡ DefineFault c → lines_give q t ≡ fault (faulty c at)
-        turn_define_fault o = stopped (defining (define_fault v h f.state f.variables o))
+        pub turn_define_fault : {name bytes : List ℕ} {c : Cause} → LineDefines user host v.bytes v.sizes v.count (drop i (fields_in text ends n)) name bytes (Err c) → lines_give q t ≡ Err (faulty c at)
+        turn_define_fault h = stopped (defining (h.defines f.state f.variables))
 
-        pub turn_defined : {place names a b : ℕ} {v' : Variables} → y ≡ DefineAt place names a b → (place < 64 → length (take a name) ≤ 64 → length (take b bytes) ≤ 256 → (v'.count ≡ names) × Stores v.bytes v.sizes place (definition (take a name) (take b bytes)) v'.bytes v'.sizes) → SoFar q t v' r d path e (number + count)
+        pub turn_defined : {name bytes : List ℕ} {p : Placed} {v' : Variables} → LineDefines user host v.bytes v.sizes v.count (drop i (fields_in text ends n)) name bytes (Ok p) → (p.place < 64 → length (take p.name name) ≤ 64 → length (take p.text bytes) ≤ 256 → (v'.count ≡ p.names) × Stores v.bytes v.sizes p.place (definition (take p.name name) (take p.text bytes)) v'.bytes v'.sizes) → SoFar q t v' r d path e (number + count)
         unfolding with_definition
-        turn_defined o stores =
-            let w = define_stored v h f.state f.variables o stores in
+        turn_defined h stores =
+            let w = define_stored v h f.state f.variables stores in
             onward (defining w.gives) w.variables (record { options = f.keeps.options; failures = f.keeps.failures; shell = f.keeps.shell }) f.decided
 
       -- ---- `:global`
-      module _ {n i : ℕ} (z : x ≡ Global n i) {y : Changed} (h : GlobalChanges user host (definitions_of v) (strings_in args) (drop i (fields_in text ends n)) r y) where
-        setting : Changes q.args (global_line (scope_of q f.state) f.state (drop i (fields_in text ends n))) y
+      module _ {n i : ℕ} (z : x ≡ Ok (Global n i)) {r' : Reader} {y : Result Unit Cause} (h : GlobalChanges user host (definitions_of v) (strings_in args) (drop i (fields_in text ends n)) r r' y) where
+        setting : Changes q.args (global_line (scope_of q f.state) f.state (drop i (fields_in text ends n))) r' y
         setting = rw k.its_args (rw scope_is at (h.changes_each f.state (rw k.its_args at f.keeps) f.variables))
 
-        pub turn_global_fault : {c : Cause} → y.outcome ≡ LineFault c → lines_give q t ≡ fault (faulty c at)
-        turn_global_fault o = stopped (does z ∙ ap at_beginning (changed_fault q.args _ setting o))
+        pub turn_global_fault : {c : Cause} → y ≡ Err c → lines_give q t ≡ Err (faulty c at)
+        turn_global_fault o = let w = rw o at setting in stopped (rw z at does ∙ ap at_beginning w.changes)
 
-        pub turn_set : y.outcome ≡ LineGood → SoFar q t v y.reader d path e (number + count)
+        pub turn_set : y ≡ Ok tt → SoFar q t v r' d path e (number + count)
         unfolding with_settings
         turn_set o =
-            let w = changed_good q.args _ setting o in
+            let s = rw o at setting in
+            let w = s.changes in
             let u = global_change (scope_of q f.state) f.state w.0 (drop i (fields_in text ends n)) w.1 in
-            onward (does z ∙ ap at_beginning w.1) (sym (ap (λ s. s.definitions) u.2) ∙ f.variables) w.2 (f.decided ∙ ap (λ s. s.decision) u.2)
+            onward (rw z at does ∙ ap at_beginning w.1) (sym (ap (λ s. s.definitions) u.2) ∙ f.variables) w.2 (f.decided ∙ ap (λ s. s.decision) u.2)
 
       -- ---- an entry that decides
-      module _ {n i index place : ℕ} (z : x ≡ Decide n i index place) where
+      module _ {n i : ℕ} {p : PathPlace} (z : x ≡ Ok (Decide n i p)) where
         abbrev scope : Scope
         scope = scope_in user host v.bytes v.sizes v.count
 
@@ -149,14 +136,14 @@ module _ {q : Question} {t : List ℕ} {v : Variables} {r : Reader} {d : CodeDec
         decided_scope : scope_of q f.state ≡ scope
         decided_scope = rw (k.its_user, k.its_host, f.variables)
 
-        pub turn_decided : {w : Decided} {d' : CodeDecision} {path' : List ℕ} → d' ≡ decided_by number w
-            → DecidesEntry (judge_of user (strings_in groups) host minute.0) scope (fields_in text ends n) i index place command user last (strings_in args) (options_in r.options) r.failures.at path' w
-            → SoFar q t v r d' path' e (number + count)
-        unfolding with_entry or_else
-        turn_decided {w} {d'} {path'} made j =
-            let g = does z in
-            let path = ap (λ sc. some (starred q.command (drop place (texts_in sc (fields_in text ends n) index)))) decided_scope in
-            let told = j q f.state.arguments g.entry k.its_command k.its_user k.its_age k.its_args k.few f.keeps.failures (sym read_is ∙ g.read) (g.path ∙ path) g.accepts in
+        pub turn_decided : {w : Decided} {path' : List ℕ}
+            → DecidesEntry (judge_of user (strings_in groups) host minute.0) scope (fields_in text ends n) i p.field p.at command user last (strings_in args) (options_in r.options) r.failures.at path' w
+            → SoFar q t v r (Some (record { line = number; verdict = w.verdict; path = w.path; options = w.options })) path' e (number + count)
+        unfolding with_entry
+        turn_decided {w} {path'} m =
+            let g = rw z at does in
+            let path = ap (λ sc. Some (starred q.command (drop p.at (texts_in sc (fields_in text ends n) p.field)))) decided_scope in
+            let told = m q f.state.arguments g.entry k.its_command k.its_user k.its_age k.its_args k.few f.keeps.failures (sym read_is ∙ g.read) (g.path ∙ path) g.accepts in
             let options = ap (λ o. verdict_of q o f.state.arguments g.entry) f.keeps.options in
-            let decision = ap (λ o. or_else o (map (decided_at number) (verdict_of q f.state.options f.state.arguments g.entry))) g.undecided ∙ ap (map (decided_at number)) (sym options ∙ told) in
-            onward g.enters f.variables (record { options = f.keeps.options; failures = f.keeps.failures; shell = f.keeps.shell }) (ap (λ x. decided_in x path') made ∙ sym decision)
+            let decision = ap (λ o. option_or o (option_map (decided_at number) (verdict_of q f.state.options f.state.arguments g.entry))) g.undecided ∙ ap (option_map (decided_at number)) (sym options ∙ told) in
+            onward g.enters f.variables (record { options = f.keeps.options; failures = f.keeps.failures; shell = f.keeps.shell }) (sym decision)

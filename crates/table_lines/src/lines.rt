@@ -1,32 +1,21 @@
 // The loop over the control lines of a table. What is kept from line to line stands in its locals, since the variables are
 // too large to be handed on for each line.
-ghost use Rattle.std.specs.Prelude.{◌≡◌};
-ghost use Rattle.table_lines.specs.Contract.{ReadsLines, refused_by};
+ghost use Rattle.table_lines.specs.Contract.{ReadsLines};
 
 use super::action::{LineAction, line_action};
-use super::{Decision, LinesOutcome, LinesRead};
+use super::{Decision, LinesFault};
 use entry::path::Path;
 use entry_line::decide::decide;
-use fault::Cause;
-use line::ends::{End, control_end};
-use line::scan::ScannedLine;
-use question::{LastAuthentication, WeekMinute};
-use reader::define::{DefineRead, read_define};
-use reader::state::{LineOutcome, Reader};
+use line::ends::{LineEnd, control_end};
+use line::scan::ControlLine;
+use question::{Age, WeekMinute};
+use reader::define::read_define;
+use reader::state::Reader;
 use variables::Variables;
 use variables::field::FieldText;
 
-// The lines end at a faulty one.
-fn refused(cause: Cause, at: usize, decision: Decision) -> LinesRead
-    ensures { result ≡ refused_by cause at decision }
-{
-    LinesRead {
-        outcome: LinesOutcome::Refused(cause, at),
-        decision,
-    }
-}
-
-// What the control lines of a table come to, for a good question. The path of the decision is put into the lent buffer.
+// What the control lines of a table come to, for a good question: the decision, or none. The path of the decision is put
+// into the lent buffer.
 pub fn read_lines(
     table: &[u8],
     command: &[u8],
@@ -34,30 +23,28 @@ pub fn read_lines(
     groups: &[u8],
     host: &[u8],
     minute: WeekMinute,
-    last: LastAuthentication,
+    last: Option<Age>,
     args: &[u8],
     path: &mut [u8; Path::BYTES],
-) -> LinesRead
+) -> Result<Option<Decision>, LinesFault>
     ensures { ReadsLines
         table.now command.now user.now groups.now host.now
         minute last args.now path.new result }
 {
     let mut variables = Variables::new();
     let mut reader = Reader::new();
-    let mut decision = Decision::none();
+    let mut decision = None;
     let mut scratch = [0u8; FieldText::BYTES];
-    let mut text = [0u8; ScannedLine::JOINED];
-    let mut ends = [0usize; ScannedLine::FIELDS];
+    let mut text = [0u8; ControlLine::JOINED];
+    let mut ends = [0usize; ControlLine::FIELDS];
     let mut at = 0;
     let mut number = 1;
+    // Stays a while: where a line ends differs from turn to turn.
     while at < table.len() {
         let begin = at;
         let first = number;
-        let End::At(end, lines) = control_end(table, begin) else {
-            return LinesRead {
-                outcome: LinesOutcome::Cut(begin),
-                decision,
-            };
+        let Some(LineEnd { end, lines }) = control_end(table, begin) else {
+            return Err(LinesFault::Cut(begin));
         };
         at = end;
         number += lines;
@@ -67,7 +54,7 @@ pub fn read_lines(
             &mut ends,
             &mut scratch,
             reader.shell,
-            !decision.made,
+            decision.is_none(),
             command,
             user,
             groups,
@@ -77,9 +64,9 @@ pub fn read_lines(
             &variables.sizes,
             variables.count,
         ) {
-            LineAction::Fault(cause) => return refused(cause, begin, decision),
-            LineAction::Nothing => continue,
-            LineAction::Define(count, from) => {
+            Err(cause) => return Err(LinesFault::Refused(cause, begin)),
+            Ok(LineAction::Nothing) => {}
+            Ok(LineAction::Define(count, from)) => {
                 let mut name = [0u8; FieldText::BYTES];
                 let mut value = [0u8; FieldText::BYTES];
                 match read_define(
@@ -95,15 +82,17 @@ pub fn read_lines(
                     &mut name,
                     &mut value,
                 ) {
-                    DefineRead::Fault(cause) => return refused(cause, begin, decision),
-                    DefineRead::At(place, names, k, n) => {
-                        variables.store(place, names, &name[..k], &value[..n]);
-                        continue;
-                    }
+                    Err(cause) => return Err(LinesFault::Refused(cause, begin)),
+                    Ok(definition) => variables.store(
+                        definition.place,
+                        definition.names,
+                        &name[..definition.name],
+                        &value[..definition.text],
+                    ),
                 }
             }
-            LineAction::Global(count, from) => {
-                let changed = reader.global(
+            Ok(LineAction::Global(count, from)) => {
+                match reader.global(
                     &text,
                     &ends,
                     count,
@@ -114,27 +103,21 @@ pub fn read_lines(
                     &variables.bytes,
                     &variables.sizes,
                     variables.count,
-                );
-                let outcome = changed.outcome;
-                if let LineOutcome::Fault(cause) = outcome {
-                    return refused(cause, begin, decision);
+                ) {
+                    Err(cause) => return Err(LinesFault::Refused(cause, begin)),
+                    Ok(()) => {}
                 }
-                let next = changed.reader;
-                reader = next;
-                continue;
             }
-            LineAction::Decide(count, from, index, place) => {
-                let options = reader.options;
-                let failures = reader.failures;
+            Ok(LineAction::Decide(count, from, place)) => {
                 let decided = decide(
                     &text,
                     &ends,
                     count,
                     from,
-                    index,
-                    place,
-                    options,
-                    failures,
+                    place.field,
+                    place.at,
+                    reader.options,
+                    reader.failures,
                     command,
                     user,
                     groups,
@@ -148,13 +131,14 @@ pub fn read_lines(
                     &mut scratch,
                     path,
                 );
-                decision = Decision::made(first, decided);
-                continue;
+                decision = Some(Decision {
+                    line: first,
+                    verdict: decided.verdict,
+                    path: decided.path,
+                    options: decided.options,
+                });
             }
         }
     }
-    LinesRead {
-        outcome: LinesOutcome::Done,
-        decision,
-    }
+    Ok(decision)
 }

@@ -1,4 +1,5 @@
 -- The laws of letters in either case. Assumes nothing.
+use Rattle.std.specs.List.{list_all}
 use mathlib.Core.Path.{◌≡◌, refl, sym, ap, ◌∙◌}
 use mathlib.Core.Bool.{Bool, true, false, cond, ◌&&◌}
 use mathlib.Core.List.{List, [], ◌∷◌}
@@ -9,7 +10,6 @@ use lib.Dec.{leb}
 use lib.ListN.{length}
 use Rattle.text.specs.Class.{name_byte, word_byte, letter}
 use Rattle.text.specs.Case.{lower_of, upper_of, Alike, ends, goes}
-use Rattle.text.specs.Lists.{all}
 use Rattle.text.proofs.Laws.{both_true}
 
 -- a capital letter as a small one: what is left to show where it is one, and where it is not
@@ -54,8 +54,7 @@ alike_length [] (c ∷ t) w = elim w [ ]
 alike_length (b ∷ s) [] w = elim w [ ]
 alike_length (b ∷ s) (c ∷ t) (goes e w) = rw (alike_length s t w)
 
-pub alike_names : (s t : List ℕ) → Alike s t → all name_byte s ≡ all name_byte t
-unfolding all
+pub alike_names : (s t : List ℕ) → Alike s t → list_all name_byte s ≡ list_all name_byte t
 alike_names [] [] ends = refl
 alike_names [] (c ∷ t) w = elim w [ ]
 alike_names (b ∷ s) [] w = elim w [ ]

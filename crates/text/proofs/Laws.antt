@@ -1,16 +1,17 @@
 -- General laws of lists, of choices and of computed tables.
-use mathlib.Core.Path.{◌≡◌, refl, sym, ◌∙◌}
+use Rattle.std.specs.Option.{option_or}
+use Rattle.std.specs.Prelude.{None, Option, Some}
+use mathlib.Core.Path.{◌≡◌, refl, sym}
 use mathlib.Core.Bool.{Bool, true, false, not, cond, ◌&&◌, ◌||◌}
 use mathlib.Core.List.{List, [], ◌∷◌, map}
-use mathlib.Core.Option.{Option, none, some, bind, or_else}
 use mathlib.Core.Logic.{◌⊎◌, inl, inr}
 use Prim.Native.Nat.{ℕ, zero, suc, ◌+◌, ◌-◌, ◌≤◌, ◌<◌, min}
 use native.Mathlib.Omega.{arith}
 use native.Mathlib.Decide.{dec_le}
 use native.Mathlib.Nat.{le_of_suc-le-suc, not-suc-le-zero}
 use native.Mathlib.Numerals.{add-one}
-use lib.ListN.{length, get_or, take, drop, length-take, length-drop, length-map}
-use lib.Seq.{drop-cons, take_all, take-nil, get_or-take, get_or-drop}
+use lib.ListN.{length, get_or, take, drop, length-take, length-drop}
+use lib.Seq.{drop-cons, take_all, take-nil}
 
 -- the next element, by the code's `i + 1`
 pub next_of : {A : Type 0} (z : A) (s : List A) (i : ℕ) → i < length s → drop i s ≡ get_or s i z ∷ drop (i + 1) s
@@ -30,18 +31,9 @@ pick_both true x = refl
 pick_both false x = refl
 
 -- a choice of something or none that is something
-pub chosen : {A : Type 0} (t : Bool) (o : Option A) (w : A) → cond t o none ≡ some w → (t ≡ true) × (o ≡ some w)
+pub chosen : {A : Type 0} (t : Bool) (o : Option A) (w : A) → cond t o None ≡ Some w → (t ≡ true) × (o ≡ Some w)
 chosen true o w e = (refl, e)
 chosen false o w e = (cc, cc)
-
--- one thing after the other, where the first is none and where it is something
-pub bind_none : {A B : Type 0} {o : Option A} (f : A → Option B) → o ≡ none → none ≡ bind o f
-unfolding bind
-bind_none f e = rw e
-
-pub bind_some : {A B : Type 0} {o : Option A} (f : A → Option B) {x : A} {y : Option B} → o ≡ some x → y ≡ f x → y ≡ bind o f
-unfolding bind
-bind_some f e p = rw e p
 
 pub both_true : (a b : Bool) → a && b ≡ true → (a ≡ true) × (b ≡ true)
 both_true true b e = (refl, e)
@@ -115,12 +107,6 @@ abbrev pub from : ℕ → ℕ → List ℕ
 from zero i = []
 from (suc n) i = i ∷ from n (i + 1)
 
--- an entry of a table that is computed
-pub table_at : (f : ℕ → ℕ) (n i k : ℕ) → k < n → get_or (map f (from n i)) k 0 ≡ f (i + k)
-table_at f zero i k h = absurd (omega arith)
-table_at f (suc n) i zero h = let z : i + 0 ≡ i = omega arith in rw z
-table_at f (suc n) i (suc k) h = let z : i + 1 + k ≡ i + suc k = omega arith in rw (← z) (table_at f n (i + 1) k (omega arith))
-
 -- what a computed test of all numbers below n says of one
 pub every {ℓ} : {B : Type ℓ} (f g : ℕ → B) (n i k : ℕ) → map f (from n i) ≡ map g (from n i) → k < n → f (i + k) ≡ g (i + k)
 every f g zero i k e h = absurd (omega arith)
@@ -151,9 +137,6 @@ module _ {A : Type 0} (s : List A) (a e : ℕ) where
   pub part_length : e ≤ length s → length (take (e - a) (drop a s)) ≡ e - a
   part_length h = simp (length-take, length-drop) (omega arith)
 
-  pub part_at_law : (z : A) (i : ℕ) → a + i < e → get_or (take (e - a) (drop a s)) i z ≡ get_or s (a + i) z
-  part_at_law z i h = let k : i < e - a = omega arith in rw (get_or-take, get_or-drop)
-
   pub part_none : e ≤ a → take (e - a) (drop a s) ≡ []
   part_none h = let z : e - a ≡ 0 = omega arith in rw z
 
@@ -167,19 +150,13 @@ untrue e = clash cc
 
 -- ---- the first of some values that is there
 module _ {A : Type 0} where
-  pub else_assoc : (a b c : Option A) → or_else (or_else a b) c ≡ or_else a (or_else b c)
-  unfolding or_else
-  else_assoc none b c = refl
-  else_assoc (some x) b c = refl
+  pub else_assoc : (a b c : Option A) → option_or (option_or a b) c ≡ option_or a (option_or b c)
+  else_assoc None b c = refl
+  else_assoc (Some x) b c = refl
 
-  pub else_none : (a : Option A) → or_else a none ≡ a
-  unfolding or_else
-  else_none none = refl
-  else_none (some x) = refl
-
--- the length of a list is that of what a function makes of it
-pub unmapped : {A B : Type 0} (f : A → B) (l : List A) (n : ℕ) → length (map f l) ≡ n → length l ≡ n
-unmapped f l n e = sym (length-map l f) ∙ e
+  pub else_none : (a : Option A) → option_or a None ≡ a
+  else_none None = refl
+  else_none (Some x) = refl
 
 -- a length that is clamped takes the same
 pub take_min : {A : Type 0} (n m : ℕ) (l : List A) → length l ≤ m → take (min n m) l ≡ take n l

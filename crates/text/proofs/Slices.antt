@@ -1,72 +1,34 @@
 -- The laws of comparing and searching.
+use Rattle.std.specs.Option.{option_map}
+use Rattle.std.specs.Prelude.{None, Option, Some}
+use Rattle.std.specs.Str.{bytes_eq}
+use Rattle.std.proofs.lemmas.Slice.Eq.{starts_is}
+use Rattle.std.proofs.lemmas.Bool.Decides.{Decides-eqb}
 use mathlib.Core.Path.{◌≡◌, refl, sym, ap, ◌∙◌}
 use mathlib.Core.Bool.{Bool, true, false, cond, ◌&&◌}
 use mathlib.Core.List.{List, [], ◌∷◌, ◌++◌}
-use mathlib.Core.Option.{Option, none, some, map}
 use Prim.Native.Nat.{ℕ, suc, ◌+◌, ◌-◌, ◌≤◌, ◌<◌}
 use native.Mathlib.Nat.{add-zero}
 use native.Mathlib.Omega.{arith}
 use borrow.Author.Tests.{eq-eqb, ne_eqb, eqb-true}
 use lib.Dec.{eqb}
-use lib.ListN.{length, length-append, take, drop, get_or, drop_of_length-le, length-drop}
+use lib.ListN.{length, length-append, take, drop, get_or, length-drop}
 use lib.Seq.{drop-drop}
 use Rattle.text.specs.Lists.{has}
-use Rattle.text.proofs.Laws.{next, part_rest, both_true, both_no, false_of, clash}
+use Rattle.text.proofs.Laws.{next, part_rest, both_true, clash}
 use Rattle.text.specs.Parts.{Parts, with_first, part_at_pair}
-use Rattle.text.specs.declared.slice.Found.{Found}
-use Rattle.text.specs.declared.slice.Found.TheVariants.{At, Nothing}
-use Rattle.text.specs.Slice.{same, starts_with, head_is, find_pair}
+use Rattle.text.specs.Slice.{starts_with, head_is, find_pair}
 use Rattle.text.specs.Contract.{lead, find_byte}
 use Rattle.text.proofs.Leads.{found_lead, missing_lead, lead_at, lead_before, lead_none, reach_stop}
 
-pub same_true : (a b : List ℕ) → same a b ≡ true → a ≡ b
-unfolding same
+pub same_true : (a b : List ℕ) → bytes_eq a b ≡ true → a ≡ b
 same_true [] [] e = refl
 same_true [] (y ∷ b) e = cc
 same_true (x ∷ a) [] e = cc
 same_true (x ∷ a) (y ∷ b) e =
-    let t = both_true (eqb x y) (same a b) e in
+    let t = both_true (eqb x y) (bytes_eq a b) e in
     let p = eqb-true x y t.0 in
     let q = same_true a b t.1 in cc
-
-pub same_length : (a b : List ℕ) → (length a ≡ length b → ⊥) → same a b ≡ false
-same_length a b h = false_of (same a b) (λ e. h (ap length (same_true a b e)))
-
-pub same_on : (a b : List ℕ) (i : ℕ) → i < length a → i < length b → get_or a i 0 ≡ get_or b i 0 → same (drop (i + 1) a) (drop (i + 1) b) ≡ same (drop i a) (drop i b)
-unfolding same
-same_on a b i h k e = rw (next a i, next b i, eq-eqb _ _ e)
-
-pub same_off : (a b : List ℕ) (i : ℕ) → i < length a → i < length b → (get_or a i 0 ≡ get_or b i 0 → ⊥) → same (drop i a) (drop i b) ≡ false
-unfolding same
-same_off a b i h k e = rw (next a i, next b i, ne_eqb _ _ e)
-
-pub same_end : (a b : List ℕ) (i : ℕ) → length a ≤ i → length b ≤ i → same (drop i a) (drop i b) ≡ true
-unfolding same
-same_end a b i h k = rw (drop_of_length-le a h, drop_of_length-le b k)
-
--- a beginning, by the part of the same length
-pub starts_same : (p s : List ℕ) → length p ≤ length s → same (take (length p) s) p ≡ starts_with p s
-unfolding same starts_with
-starts_same [] s h = refl
-starts_same (y ∷ p) [] h = absurd (omega arith)
-starts_same (y ∷ p) (x ∷ s) h = rw (starts_same p s (omega arith))
-
-pub starts_long : (p s : List ℕ) → length s < length p → false ≡ starts_with p s
-unfolding starts_with
-starts_long [] s h = absurd (omega arith)
-starts_long (y ∷ p) [] h = refl
-starts_long (y ∷ p) (x ∷ s) h = rw (← starts_long p s (omega arith)) (sym (both_no (eqb x y)))
-
--- the first byte
-pub head_none : (d : ℕ) (s : List ℕ) → length s ≡ 0 → false ≡ head_is d s
-unfolding head_is
-head_none d [] h = refl
-head_none d (y ∷ s) h = absurd (omega arith)
-
-pub head_some : (d : ℕ) (s : List ℕ) → (length s ≡ 0 → ⊥) → eqb (get_or s 0 0) d ≡ head_is d s
-unfolding head_is
-head_some d [] h = absurd (h refl)
-head_some d (y ∷ s) h = refl
 
 abbrev pub pair_at : ℕ → ℕ → List ℕ → ℕ → Bool
 pair_at c d s i = eqb (get_or s i 0) c && eqb (get_or s (i + 1) 0) d
@@ -76,23 +38,23 @@ unfolding head_is
 head_is_law d [] e = clash cc
 head_is_law d (y ∷ s) e = (omega arith, eqb-true y d e)
 
-pair_next : (c d : ℕ) (s : List ℕ) (i : ℕ) → i + 1 < length s → find_pair c d i (drop i s) ≡ cond (pair_at c d s i) (At i) (find_pair c d (i + 1) (drop (i + 1) s))
+pair_next : (c d : ℕ) (s : List ℕ) (i : ℕ) → i + 1 < length s → find_pair c d i (drop i s) ≡ cond (pair_at c d s i) (Some i) (find_pair c d (i + 1) (drop (i + 1) s))
 unfolding find_pair head_is
 pair_next c d s i h = let k : i < length s = omega arith in rw (next s i k, next s (i + 1) h)
 
-pair_hit : (c d : ℕ) (s : List ℕ) (i : ℕ) → i + 1 < length s → pair_at c d s i ≡ true → At i ≡ find_pair c d i (drop i s)
+pair_hit : (c d : ℕ) (s : List ℕ) (i : ℕ) → i + 1 < length s → pair_at c d s i ≡ true → Some i ≡ find_pair c d i (drop i s)
 pair_hit c d s i h t = rw (pair_next c d s i h, t)
 
 pair_on : (c d : ℕ) (s : List ℕ) (i : ℕ) → i + 1 < length s → pair_at c d s i ≡ false → find_pair c d (i + 1) (drop (i + 1) s) ≡ find_pair c d i (drop i s)
 pair_on c d s i h t = rw (pair_next c d s i h, t)
 
-few : (c d : ℕ) (at : ℕ) (s : List ℕ) → length s ≤ 1 → Nothing ≡ find_pair c d at s
+few : (c d : ℕ) (at : ℕ) (s : List ℕ) → length s ≤ 1 → None ≡ find_pair c d at s
 unfolding find_pair head_is
 few c d at [] h = refl
-few c d at (x ∷ []) h = elim (eqb x c) as (λ (t : Bool). Nothing ≡ cond (t && false) (At at) Nothing) [ true ↦ refl | false ↦ refl ]
+few c d at (x ∷ []) h = elim (eqb x c) as (λ (t : Bool). None ≡ cond (t && false) (Some at) None) [ true ↦ refl | false ↦ refl ]
 few c d at (x ∷ (y ∷ s)) h = absurd (omega arith)
 
-pub pair_end : (c d : ℕ) (s : List ℕ) (i : ℕ) → length s ≤ i + 1 → Nothing ≡ find_pair c d i (drop i s)
+pub pair_end : (c d : ℕ) (s : List ℕ) (i : ℕ) → length s ≤ i + 1 → None ≡ find_pair c d i (drop i s)
 pair_end c d s i h = few c d i (drop i s) (rw length-drop (omega arith))
 
 -- no pair begins before the first c
@@ -101,7 +63,7 @@ unfolding find_pair lead
 pair_lead c d at [] = refl
 pair_lead c d at (x ∷ s) = go (eqb x c) refl (pair_lead c d (at + 1) s)
   where
-    go : (t : Bool) → eqb x c ≡ t → find_pair c d (at + 1) s ≡ find_pair c d (at + 1 + lead c s) (drop (lead c s) s) → cond (t && head_is d s) (At at) (find_pair c d (at + 1) s) ≡ find_pair c d (at + cond t 0 (suc (lead c s))) (drop (cond t 0 (suc (lead c s))) (x ∷ s))
+    go : (t : Bool) → eqb x c ≡ t → find_pair c d (at + 1) s ≡ find_pair c d (at + 1 + lead c s) (drop (lead c s) s) → cond (t && head_is d s) (Some at) (find_pair c d (at + 1) s) ≡ find_pair c d (at + cond t 0 (suc (lead c s))) (drop (cond t 0 (suc (lead c s))) (x ∷ s))
     go true e k = rw (e, add-zero)
     go false e k = k ∙ ap (λ (k : ℕ). find_pair c d k (drop (lead c s) s)) (omega arith)
 
@@ -110,34 +72,34 @@ module _ (c d : ℕ) (s : List ℕ) (i at : ℕ) (e : at ≡ i + lead c (drop i 
   pair_there : find_pair c d i (drop i s) ≡ find_pair c d at (drop at s)
   pair_there = pair_lead c d i (drop i s) ∙ rw (e, drop-drop)
 
-  pub pair_none : length s ≤ at + 1 → Nothing ≡ find_pair c d i (drop i s)
+  pub pair_none : length s ≤ at + 1 → None ≡ find_pair c d i (drop i s)
   pair_none h = pair_end c d s at h ∙ sym pair_there
 
-  pub pair_here : at + 1 < length s → get_or s (at + 1) 0 ≡ d → At at ≡ find_pair c d i (drop i s)
+  pub pair_here : at + 1 < length s → get_or s (at + 1) 0 ≡ d → Some at ≡ find_pair c d i (drop i s)
   pair_here h t = pair_hit c d s at h (simp (eq-eqb _ _ (reach_stop c s i at e (omega arith)), eq-eqb _ _ t)) ∙ sym pair_there
 
   pub pair_later : at + 1 < length s → (get_or s (at + 1) 0 ≡ d → ⊥) → find_pair c d (at + 1) (drop (at + 1) s) ≡ find_pair c d i (drop i s)
   pair_later h t = pair_on c d s at h (simp (eq-eqb _ _ (reach_stop c s i at e (omega arith)), ne_eqb _ _ t)) ∙ sym pair_there
 
 -- where a byte was found: its place, and that it does not stand before
-pub byte_at : (c : ℕ) (s : List ℕ) (i : ℕ) → find_byte c 0 s ≡ At i → (i < length s) × (get_or s i 0 ≡ c) × (has c (take i s) ≡ false)
+pub byte_at : (c : ℕ) (s : List ℕ) (i : ℕ) → find_byte c 0 s ≡ Some i → (i < length s) × (get_or s i 0 ≡ c) × (has c (take i s) ≡ false)
 byte_at c s i e =
     let t = found_lead c s i e in
     let h : lead c s < length s = omega (arith, t.0, t.1) in
     rw t.0 (h, lead_at c s h, lead_before c s h)
 
-pub byte_none : (c at : ℕ) (s : List ℕ) → find_byte c at s ≡ Nothing → has c s ≡ false
+pub byte_none : (c at : ℕ) (s : List ℕ) → find_byte c at s ≡ None → has c s ≡ false
 byte_none c at s e = lead_none c s (missing_lead c at s e)
 
 -- where a pair was found
-pair_found : (c d at : ℕ) (s : List ℕ) (i : ℕ) → find_pair c d at s ≡ At i → (at ≤ i) × (i - at + 1 < length s) × (get_or s (i - at) 0 ≡ c) × (get_or s (i - at + 1) 0 ≡ d)
+pair_found : (c d at : ℕ) (s : List ℕ) (i : ℕ) → find_pair c d at s ≡ Some i → (at ≤ i) × (i - at + 1 < length s) × (get_or s (i - at) 0 ≡ c) × (get_or s (i - at + 1) 0 ≡ d)
 unfolding find_pair
 pair_found c d at [] i e = clash cc
 pair_found c d at (x ∷ s) i e = go (eqb x c && head_is d s) refl (pair_found c d (at + 1) s i) e
   where
     go : (t : Bool) → eqb x c && head_is d s ≡ t
-        → (find_pair c d (at + 1) s ≡ At i → (at + 1 ≤ i) × (i - (at + 1) + 1 < length s) × (get_or s (i - (at + 1)) 0 ≡ c) × (get_or s (i - (at + 1) + 1) 0 ≡ d))
-        → cond t (At at) (find_pair c d (at + 1) s) ≡ At i
+        → (find_pair c d (at + 1) s ≡ Some i → (at + 1 ≤ i) × (i - (at + 1) + 1 < length s) × (get_or s (i - (at + 1)) 0 ≡ c) × (get_or s (i - (at + 1) + 1) 0 ≡ d))
+        → cond t (Some at) (find_pair c d (at + 1) s) ≡ Some i
         → (at ≤ i) × (i - at + 1 < suc (length s)) × (get_or (x ∷ s) (i - at) 0 ≡ c) × (get_or (x ∷ s) (i - at + 1) 0 ≡ d)
     go true t f e =
         let q : at ≡ i = cc in
@@ -151,53 +113,47 @@ pair_found c d at (x ∷ s) i e = go (eqb x c && head_is d s) refl (pair_found c
         let y : i - at + 1 ≡ suc (i - (at + 1) + 1) = omega (arith, r.0) in
         rw (y, z) (omega (arith, r.0), omega (arith, r.1), r.2, r.3)
 
-pub pair_at_law : (c d : ℕ) (s : List ℕ) (i : ℕ) → find_pair c d 0 s ≡ At i → (i + 1 < length s) × (get_or s i 0 ≡ c) × (get_or s (i + 1) 0 ≡ d)
+pub pair_at_law : (c d : ℕ) (s : List ℕ) (i : ℕ) → find_pair c d 0 s ≡ Some i → (i + 1 < length s) × (get_or s i 0 ≡ c) × (get_or s (i + 1) 0 ≡ d)
 pair_at_law c d s i e = let z : i - 0 ≡ i = omega arith in let r = pair_found c d 0 s i e in (rw z at r.1, rw z at r.2, rw z at r.3)
 
 -- the two parts, by the place of the pair
-abbrev pair_parts : ℕ → List ℕ → Found → Option Parts
-pair_parts at s (At i) = some (record { front = take (i - at) s; back = drop (i - at + 2) s })
-pair_parts at s Nothing = none
+abbrev pair_parts : ℕ → List ℕ → Option ℕ → Option Parts
+pair_parts at s (Some i) = Some (record { front = take (i - at) s; back = drop (i - at + 2) s })
+pair_parts at s None = None
 
 pair_parts_law : (c d at : ℕ) (s : List ℕ) → part_at_pair c d s ≡ pair_parts at s (find_pair c d at s)
 unfolding find_pair part_at_pair
 pair_parts_law c d at [] = refl
 pair_parts_law c d at (x ∷ s) = go (eqb x c && head_is d s) (pair_parts_law c d (at + 1) s)
   where
-    on : (q : Found) → find_pair c d (at + 1) s ≡ q → map (with_first x) (pair_parts (at + 1) s q) ≡ pair_parts at (x ∷ s) q
-    on Nothing e = refl
-    on (At i) e =
+    on : (q : Option ℕ) → find_pair c d (at + 1) s ≡ q → option_map (with_first x) (pair_parts (at + 1) s q) ≡ pair_parts at (x ∷ s) q
+    on None e = refl
+    on (Some i) e =
         let h = (pair_found c d (at + 1) s i e).0 in
         let y : i - at + 2 ≡ suc (i - (at + 1) + 2) = omega (arith, h) in
         let z : i - at ≡ suc (i - (at + 1)) = omega (arith, h) in
         rw (y, z)
 
     go : (t : Bool) → part_at_pair c d s ≡ pair_parts (at + 1) s (find_pair c d (at + 1) s)
-        → cond t (some (record { front = []; back = drop 1 s })) (map (with_first x) (part_at_pair c d s)) ≡ pair_parts at (x ∷ s) (cond t (At at) (find_pair c d (at + 1) s))
+        → cond t (Some (record { front = []; back = drop 1 s })) (option_map (with_first x) (part_at_pair c d s)) ≡ pair_parts at (x ∷ s) (cond t (Some at) (find_pair c d (at + 1) s))
     go true p = let z : at - at ≡ 0 = omega arith in rw z
-    go false p = ap (map (with_first x)) p ∙ on (find_pair c d (at + 1) s) refl
+    go false p = ap (option_map (with_first x)) p ∙ on (find_pair c d (at + 1) s) refl
 
 -- a text parted at its first pair, as the code has its two parts
-module _ (c d : ℕ) (s : List ℕ) (r : Found) (f : r ≡ find_pair c d 0 s) where
-  pub pair_within : {i : ℕ} → r ≡ At i → i + 2 ≤ length s
+module _ (c d : ℕ) (s : List ℕ) (r : Option ℕ) (f : r ≡ find_pair c d 0 s) where
+  pub pair_within : {i : ℕ} → r ≡ Some i → i + 2 ≤ length s
   pair_within {i} e = let t = pair_at_law c d s i (sym f ∙ e) in omega (arith, t.0)
 
-  pub pair_parted : {i : ℕ} → r ≡ At i → part_at_pair c d s ≡ some (record { front = take (i - 0) (drop 0 s); back = take (length s - (i + 2)) (drop (i + 2) s) })
+  pub pair_parted : {i : ℕ} → r ≡ Some i → part_at_pair c d s ≡ Some (record { front = take (i - 0) (drop 0 s); back = take (length s - (i + 2)) (drop (i + 2) s) })
   pair_parted {i} e =
       let z : i - 0 + 2 ≡ i + 2 = omega arith in
       pair_parts_law c d 0 s ∙ rw (sym f ∙ e, part_rest (i + 2) s, z)
 
-  pub pair_missing : r ≡ Nothing → part_at_pair c d s ≡ none
+  pub pair_missing : r ≡ None → part_at_pair c d s ≡ None
   pair_missing e = pair_parts_law c d 0 s ∙ rw (sym f ∙ e)
 
 pub starts_true : (p s : List ℕ) → starts_with p s ≡ true → p ++ drop (length p) s ≡ s
-unfolding starts_with
-starts_true [] s e = refl
-starts_true (y ∷ p) [] e = cc
-starts_true (y ∷ p) (x ∷ s) e =
-    let t = both_true (eqb x y) (starts_with p s) e in
-    let k = eqb-true x y t.0 in
-    let j = starts_true p s t.1 in cc
+starts_true p s e = sym ((starts_is Decides-eqb s p _ refl).0 e)
 
 pub starts_length : (p s : List ℕ) → starts_with p s ≡ true → length p ≤ length s
 starts_length p s e = omega (arith, simp length-append at (ap length (starts_true p s e)))

@@ -1,21 +1,12 @@
 -- List functions that all layers share.
-use Rattle.std.specs.Prelude.{ℕ, suc, Bool, true, false, cond, ◌&&◌, ◌||◌, List, [], ◌∷◌, eqb}
+use Rattle.std.specs.List.{list_any}
+use Rattle.std.specs.Prelude.{ℕ, suc, Bool, true, false, cond, List, [], ◌∷◌, eqb}
 
 module _ {A : Type 0} where
   -- there is no element
   abbrev pub null : List A → Bool
   null [] = true
   null (x ∷ xs) = false
-
-  -- each element passes
-  unfoldable pub all : (A → Bool) → List A → Bool
-  all f [] = true
-  all f (x ∷ xs) = f x && all f xs
-
-  -- some element passes
-  unfoldable pub any : (A → Bool) → List A → Bool
-  any f [] = false
-  any f (x ∷ xs) = f x || any f xs
 
   -- how many elements pass
   unfoldable pub count : (A → Bool) → List A → ℕ
@@ -24,8 +15,7 @@ module _ {A : Type 0} where
 
 -- the byte is there
 unfoldable pub has : ℕ → List ℕ → Bool
-unfolding any
-has c s = any (λ b. eqb b c) s
+has c s = list_any (λ b. eqb b c) s
 
 -- the byte in front of the first part
 abbrev pub onto : ℕ → List (List ℕ) → List (List ℕ)

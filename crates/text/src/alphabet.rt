@@ -1,6 +1,6 @@
 // Alphabets: which bytes a text may hold.
+ghost use Rattle.std.specs.List.{list_all};
 ghost use Rattle.std.specs.Prelude.{◌≡◌};
-ghost use Rattle.text.specs.Lists.{all};
 ghost use Rattle.text.specs.Contract.{in_alphabet};
 
 use super::class::{is_command_byte, is_name_byte, is_printable, is_word_byte};
@@ -32,14 +32,7 @@ pub fn in_alphabet(b: u8, alphabet: Alphabet) -> bool
 
 // Whether all bytes are of the alphabet.
 pub fn all_in(s: &[u8], alphabet: Alphabet) -> bool
-    ensures { result ≡ all (in_alphabet alphabet) s.now }
+    ensures { result ≡ list_all (in_alphabet alphabet) s.now }
 {
-    let mut i = 0;
-    while i < s.len() {
-        if !in_alphabet(s[i], alphabet) {
-            return false;
-        }
-        i += 1;
-    }
-    true
+    s.iter().all(|b| in_alphabet(*b, alphabet))
 }

@@ -3,7 +3,7 @@ ghost use Rattle.std.specs.Prelude.{◌≡◌};
 ghost use Rattle.text.specs.Quote.{quoting_after};
 
 // Where a byte stands: outside quotes, or inside a kind of them.
-#[derive(Clone, Copy)]
+#[derive(Clone, Copy, PartialEq, Eq)]
 pub enum Quoting {
     Outside,
     Single,
@@ -11,32 +11,14 @@ pub enum Quoting {
 }
 
 // The quoting behind a byte.
+#[tactic(auto, unfolding(crate::specs::Quote::quoting_after))]
 pub fn quoting_after(quoting: Quoting, b: u8) -> Quoting
     ensures { result ≡ quoting_after quoting b }
 {
-    match quoting {
-        Quoting::Outside => {
-            if b == b'\'' {
-                Quoting::Single
-            } else if b == b'"' {
-                Quoting::Double
-            } else {
-                Quoting::Outside
-            }
-        }
-        Quoting::Single => {
-            if b == b'\'' {
-                Quoting::Outside
-            } else {
-                Quoting::Single
-            }
-        }
-        Quoting::Double => {
-            if b == b'"' {
-                Quoting::Outside
-            } else {
-                Quoting::Double
-            }
-        }
+    match (quoting, b) {
+        (Quoting::Outside, b'\'') => Quoting::Single,
+        (Quoting::Outside, b'"') => Quoting::Double,
+        (Quoting::Single, b'\'') | (Quoting::Double, b'"') => Quoting::Outside,
+        _ => quoting,
     }
 }

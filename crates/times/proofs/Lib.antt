@@ -1,3 +1,1 @@
-pub mod Clocks
 pub mod Days
-pub mod Items

@@ -1,76 +1,59 @@
 // Clock times, `hh[:mm]`, as minutes of the day.
-ghost use Rattle.std.specs.Prelude.{◌≡◌};
-ghost use Rattle.text.specs.Contract.{number_read};
-ghost use Rattle.times.specs.Clock.{hour_of, minute_of, minute_at, clock_of};
-ghost use Rattle.times.specs.Contract.{clock_read};
+ghost use Rattle.std.specs.Prelude.{◌≡◌, ◌+◌, ◌*◌};
+ghost use Rattle.times.specs.Clock.{day_minutes, not_past, hour_of, minute_of, clock_of};
 
+use super::parts::split_once;
 use super::period::Period;
-use text::number::{Number, decimal};
-use text::slice::{Found, find_byte};
+use text::number::decimal;
 
-// A clock time that was read.
 #[derive(Drop)]
-pub enum ClockRead {
-    // The minute of the day; 24:00 is 1,440.
-    At(u16),
-    Malformed,
-}
+pub struct Clock;
 
-impl ClockRead {
+impl Clock {
     // The last minute of an hour.
     pub const MINUTE: u32 = 59;
 }
 
 // One or two digits.
-fn read_hour(s: &[u8]) -> Number
-    ensures { number_read result ≡ hour_of s.now }
+#[tactic(auto, unfolding(crate::specs::Clock::hour_of))]
+fn read_hour(s: &[u8]) -> Option<u32>
+    ensures { result ≡ hour_of s.now }
 {
     if s.len() > 2 {
-        return Number::Malformed;
+        return None;
     }
     decimal(s)
 }
 
 // Two digits, to 59.
-fn read_minute(s: &[u8]) -> Number
-    ensures { number_read result ≡ minute_of s.now }
+#[tactic(auto, unfolding(crate::specs::Clock::minute_of))]
+fn read_minute(s: &[u8]) -> Option<u32>
+    ensures { result ≡ minute_of s.now }
 {
     if s.len() != 2 {
-        return Number::Malformed;
+        return None;
     }
-    let Number::Value(m) = decimal(s) else {
-        return Number::Malformed;
-    };
-    if m > ClockRead::MINUTE {
-        return Number::Malformed;
-    }
-    Number::Value(m)
+    decimal(s).filter(|m| *m <= Clock::MINUTE)
 }
 
 // The minute of the day, which is not after 24:00.
-fn clock_at(hour: Number, minute: Number) -> ClockRead
-    ensures { clock_read result ≡ minute_at (number_read hour) (number_read minute) }
+fn clock_at(hour: u32, minute: u32) -> Option<u16>
+    ensures { result ≡ not_past day_minutes (hour * 60 + minute) }
 {
-    let Number::Value(h) = hour else {
-        return ClockRead::Malformed;
-    };
-    let Number::Value(m) = minute else {
-        return ClockRead::Malformed;
-    };
-    let at = h as u64 * 60 + m as u64;
-    if at > Period::DAY as u64 {
-        return ClockRead::Malformed;
+    let at = u64::from(hour) * 60 + u64::from(minute);
+    if at > u64::from(Period::DAY) {
+        return None;
     }
-    ClockRead::At(at as u16)
+    Some(at as u16)
 }
 
 // The clock time that s writes.
-pub fn read_clock(s: &[u8]) -> ClockRead
-    ensures { clock_read result ≡ clock_of s.now }
+#[tactic(auto, unfolding(crate::specs::Clock::clock_of))]
+pub fn read_clock(s: &[u8]) -> Option<u16>
+    ensures { result ≡ clock_of s.now }
 {
-    let Found::At(colon) = find_byte(s, b':') else {
-        return clock_at(read_hour(s), Number::Value(0));
+    let Some((hour, minute)) = split_once(s, b':') else {
+        return clock_at(read_hour(s)?, 0);
     };
-    let after = colon + 1;
-    clock_at(read_hour(&s[0..colon]), read_minute(&s[after..]))
+    clock_at(read_hour(hour)?, read_minute(minute)?)
 }

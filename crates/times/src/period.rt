@@ -1,14 +1,14 @@
 // The minutes of the day of an item.
-ghost use Rattle.std.specs.Prelude.{◌≡◌};
-ghost use Rattle.std.proofs.Math.Option.{map};
+ghost use Rattle.std.specs.Prelude.{◌≡◌, ◌+◌, Some};
 ghost use Rattle.times.specs.Item.{compared, from_to, clock_range, period_of, in_period};
-ghost use Rattle.times.specs.Contract.{clock_read, period_read, side};
+ghost use Rattle.times.specs.Contract.{side};
 
-use super::clock::{ClockRead, read_clock};
-use text::slice::{Found, find_byte, head_is};
+use super::clock::read_clock;
+use super::parts::split_once;
+use text::slice::head_is;
 
 // The minutes from the first on, up to the end, which is not one of them.
-#[derive(Drop)]
+#[derive(Clone, Copy)]
 pub struct Period {
     pub first: u32,
     pub end: u32,
@@ -19,110 +19,72 @@ impl Period {
     pub const DAY: u32 = 1440;
 }
 
-// A period that was read.
-#[derive(Drop)]
-pub enum PeriodRead {
-    Is(Period),
-    Malformed,
-}
-
 // The minutes before a clock time, or after it, and whether its own minute counts.
-fn beside(clock: ClockRead, less: bool, counts: bool) -> PeriodRead
-    ensures { period_read result ≡ map (side less counts) (clock_read clock) }
+fn beside(clock: u16, less: bool, counts: bool) -> Period
+    ensures { result ≡ side less counts clock }
 {
-    let ClockRead::At(m) = clock else {
-        return PeriodRead::Malformed;
-    };
-    let minute = m as u32;
+    let minute = u32::from(clock);
     if less {
-        if counts {
-            return PeriodRead::Is(Period {
-                first: 0,
-                end: minute + 1,
-            });
-        }
-        return PeriodRead::Is(Period {
+        return Period {
             first: 0,
-            end: minute,
-        });
+            end: minute + u32::from(counts),
+        };
     }
-    if counts {
-        return PeriodRead::Is(Period {
-            first: minute,
-            end: Period::DAY,
-        });
-    }
-    PeriodRead::Is(Period {
-        first: minute + 1,
+    Period {
+        first: minute + u32::from(!counts),
         end: Period::DAY,
-    })
+    }
 }
 
 // What follows `<` or `>`: with `=` the minute itself counts.
-fn read_compared(s: &[u8], less: bool) -> PeriodRead
-    ensures { period_read result ≡ compared (side less) s.now }
+#[tactic(auto, unfolding(crate::specs::Item::compared))]
+fn read_compared(s: &[u8], less: bool) -> Option<Period>
+    ensures { result ≡ compared (side less) s.now }
 {
     if head_is(s, b'=') {
-        return beside(read_clock(&s[1..]), less, true);
+        return Some(beside(read_clock(&s[1..])?, less, true));
     }
-    beside(read_clock(s), less, false)
+    Some(beside(read_clock(s)?, less, false))
 }
 
 // Both ends count, and the start is not after the end.
-fn from_to(start: ClockRead, last: ClockRead) -> PeriodRead
-    ensures { period_read result ≡ from_to (clock_read start) (clock_read last) }
+fn from_to(start: u16, last: u16) -> Option<Period>
+    ensures { result ≡ from_to (Some start) (Some last) }
 {
-    let ClockRead::At(a) = start else {
-        return PeriodRead::Malformed;
-    };
-    let ClockRead::At(b) = last else {
-        return PeriodRead::Malformed;
-    };
-    if a > b {
-        return PeriodRead::Malformed;
+    if start > last {
+        return None;
     }
-    PeriodRead::Is(Period {
-        first: a as u32,
-        end: b as u32 + 1,
+    Some(Period {
+        first: u32::from(start),
+        end: u32::from(last) + 1,
     })
 }
 
 // `hh[:mm]-hh[:mm]`.
-fn read_clock_range(s: &[u8]) -> PeriodRead
-    ensures { period_read result ≡ clock_range s.now }
+#[tactic(auto, unfolding(crate::specs::Item::clock_range))]
+fn read_clock_range(s: &[u8]) -> Option<Period>
+    ensures { result ≡ clock_range s.now }
 {
-    let Found::At(dash) = find_byte(s, b'-') else {
-        return PeriodRead::Malformed;
-    };
-    let after = dash + 1;
-    from_to(read_clock(&s[0..dash]), read_clock(&s[after..]))
+    let (start, last) = split_once(s, b'-')?;
+    from_to(read_clock(start)?, read_clock(last)?)
 }
 
 // `<`, `>`, `<=`, `>=` with a clock time, or a range.
-pub fn read_period(s: &[u8]) -> PeriodRead
-    ensures { period_read result ≡ period_of s.now }
+#[tactic(auto, unfolding(crate::specs::Item::period_of))]
+pub fn read_period(s: &[u8]) -> Option<Period>
+    ensures { result ≡ period_of s.now }
 {
-    if s.len() == 0 {
-        return PeriodRead::Malformed;
+    match s {
+        [b'<', clock @ ..] => read_compared(clock, true),
+        [b'>', clock @ ..] => read_compared(clock, false),
+        _ => read_clock_range(s),
     }
-    let b = s[0];
-    if b == b'<' {
-        return read_compared(&s[1..], true);
-    }
-    if b == b'>' {
-        return read_compared(&s[1..], false);
-    }
-    read_clock_range(s)
 }
 
 // Whether the minute of the day is one of the period's.
+#[tactic(auto, unfolding(crate::specs::Item::in_period))]
 pub fn is_in_period(period: Period, m: u32) -> bool
     ensures { result ≡ in_period period m }
 {
-    let first = period.first;
-    let end = period.end;
-    if m < first {
-        return false;
-    }
-    m < end
+    (period.first..period.end).contains(&m)
 }

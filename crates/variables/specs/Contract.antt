@@ -1,35 +1,22 @@
 -- What only contracts and proofs cite: the variables in their arrays, and what the steps of reading a field do.
-use Rattle.std.specs.Prelude.{◌≡◌, Bool, true, not, cond, ◌&&◌, List, [], ◌∷◌, ◌++◌, ℕ, zero, suc, ◌+◌, ◌*◌, ◌-◌, ◌≤◌, ◌<◌, min, leb, length, set, take, drop, get_or}
-use Rattle.std.proofs.Math.Option.{Option, none, some}
+use Rattle.std.specs.Str.{bytes_eq}
+use Rattle.std.specs.List.{list_all}
+use Rattle.std.specs.Prelude.{◌≡◌, Bool, true, not, cond, ◌&&◌, List, [], ◌∷◌, ◌++◌, ℕ, zero, suc, ◌+◌, ◌*◌, ◌-◌, ◌≤◌, ◌<◌, min, leb, length, set, take, drop, get_or, Err, None, Ok, Option, Result, Some}
 use Rattle.text.specs.Buffer.{laid}
 use Rattle.text.specs.Limits.{field_limit}
-use Rattle.text.specs.Lists.{all}
 use Rattle.text.specs.Quote.{quoting_after}
-use Rattle.text.specs.Slice.{same}
-use Rattle.text.specs.declared.buffer.Filled.{Filled}
-use Rattle.text.specs.declared.buffer.Filled.TheVariants.{Done, Full}
 use Rattle.text.specs.declared.quote.Quoting.{Quoting}
 use Rattle.text.specs.declared.quote.Quoting.TheVariants.{Outside}
-use Rattle.text.specs.declared.slice.Found.{Found}
-use Rattle.text.specs.declared.slice.Found.TheVariants.{At, Nothing}
-use Rattle.fault.specs.Fault.{Reading, fault, value}
 use Rattle.fault.specs.declared.Cause.{Cause}
 use Rattle.fault.specs.declared.Cause.TheVariants.{FieldLength}
 use Rattle.variables.specs.declared.Variables.{Variables}
 use Rattle.variables.specs.declared.DefinePlace.{DefinePlace}
-use Rattle.variables.specs.declared.definition.Checked.{Checked}
-use Rattle.variables.specs.declared.field.FieldText.{FieldText}
 use Rattle.variables.specs.declared.field.TextRun.{TextRun}
 use Rattle.variables.specs.declared.field.NamePlace.{NamePlace}
-use Rattle.variables.specs.declared.field.NamePlace.TheVariants.{Name, Missing}
 use Rattle.variables.specs.declared.field.Referred.{Referred}
-use Rattle.variables.specs.declared.field.Referred.TheVariants.{Known, Bad}
 use Rattle.variables.specs.Scope.{Definition, definition, Scope, name_text}
 use Rattle.variables.specs.Define.{name_limit, text_limit, names_limit, define_in}
 use Rattle.variables.specs.Substitute.{Substitution, substitution, stays, refers, reference, substitute, substituted, field_text}
-use Rattle.variables.specs.declared.DefinePlace.TheVariants.{At as PlaceAt, Fault as NoPlace}
-use Rattle.variables.specs.declared.definition.Checked.TheVariants.{Good, Fault as NotGood}
-use Rattle.variables.specs.declared.field.FieldText.TheVariants.{Text, Fault as NoText}
 
 -- ---- the variables in their arrays
 -- the bytes of a place: those of its name, and behind them those of its text
@@ -64,9 +51,9 @@ abbrev pub scope_in : List ℕ → List ℕ → List ℕ → List ℕ → ℕ �
 scope_in caller host bytes sizes count = record { caller = caller; host = host; definitions = definitions_in bytes sizes count }
 
 -- the place of a name, counted from i
-unfoldable pub defined_at : ℕ → List ℕ → List Definition → Found
-defined_at i n [] = Nothing
-defined_at i n (d ∷ ds) = cond (same d.name n) (At i) (defined_at (i + 1) n ds)
+unfoldable pub defined_at : ℕ → List ℕ → List Definition → Option ℕ
+defined_at i n [] = None
+defined_at i n (d ∷ ds) = cond (bytes_eq d.name n) (Some i) (defined_at (i + 1) n ds)
 
 -- the bytes with a name and a text at a place, and likewise their sizes; as they were where there is no such place
 unfoldable pub bytes_with : List ℕ → ℕ → List ℕ → List ℕ → List ℕ
@@ -86,16 +73,16 @@ pub record Stores (bytes sizes : List ℕ) (at : ℕ) (d : Definition) (new_byte
 
 -- ---- a definition
 -- what a check of a name or a text tells
-abbrev pub checked_reading : Checked → List ℕ → Reading Cause (List ℕ)
-checked_reading Good s = value s
-checked_reading (NotGood c) s = fault c
+abbrev pub checked_reading : (Result Unit Cause) → List ℕ → Result (List ℕ) Cause
+checked_reading (Ok tt) s = Ok s
+checked_reading (Err c) s = Err c
 
 -- why a name has no place, whatever its text, or: whoever stores the name with a text at the place has the variables with them
-abbrev pub GoesIn : List ℕ → List ℕ → ℕ → List ℕ → DefinePlace → Type 0
-GoesIn bytes sizes count name (NoPlace c) = (text : List ℕ) → define_in (definition name text) (definitions_in bytes sizes count) ≡ fault c
-GoesIn bytes sizes count name (PlaceAt i n) = (i < names_limit) × ((text new_bytes new_sizes : List ℕ) → Stores bytes sizes i (definition name text) new_bytes new_sizes → define_in (definition name text) (definitions_in bytes sizes count) ≡ value (definitions_in new_bytes new_sizes n))
+abbrev pub GoesIn : List ℕ → List ℕ → ℕ → List ℕ → Result DefinePlace Cause → Type 0
+GoesIn bytes sizes count name (Err c) = (text : List ℕ) → define_in (definition name text) (definitions_in bytes sizes count) ≡ Err c
+GoesIn bytes sizes count name (Ok p) = (p.place < names_limit) × ((text new_bytes new_sizes : List ℕ) → Stores bytes sizes p.place (definition name text) new_bytes new_sizes → define_in (definition name text) (definitions_in bytes sizes count) ≡ Ok (definitions_in new_bytes new_sizes p.names))
 
-pub record Goes (bytes sizes : List ℕ) (count : ℕ) (name : List ℕ) (r : DefinePlace) : Type 0 where
+pub record Goes (bytes sizes : List ℕ) (count : ℕ) (name : List ℕ) (r : Result DefinePlace Cause) : Type 0 where
   pub goes : GoesIn bytes sizes count name r
 
 -- ---- a field's text
@@ -107,12 +94,12 @@ literal b = stays Outside b && not (refers Outside b)
 -- a field of such bytes: it is its own text, whatever the variables are
 unfoldable pub verbatim : List ℕ → Bool
 unfolding literal
-verbatim f = all literal f
+verbatim f = list_all literal f
 
 -- the text up to a bad `$`, of the bytes behind n that are taken
 abbrev pub text_then : Option Substitution → (Substitution → List ℕ) → List ℕ
-text_then none f = []
-text_then (some x) f = x.text ++ f x
+text_then None f = []
+text_then (Some x) f = x.text ++ f x
 
 unfoldable pub up_to_bad : Scope → Quoting → ℕ → List ℕ → List ℕ
 up_to_bad s q n [] = []
@@ -120,25 +107,25 @@ up_to_bad s q (suc n) (b ∷ r) = up_to_bad s q n r
 up_to_bad s q zero (b ∷ r) = text_then (substitute (refers q b) s q b r) (λ x. up_to_bad s (quoting_after q b) x.taken r)
 
 -- what an answer says, with the text at the buffer's beginning
-abbrev pub text_reading : List ℕ → FieldText → Reading Cause (List ℕ)
-text_reading out (Text n) = value (take n out)
-text_reading out (NoText c) = fault c
+abbrev pub text_reading : List ℕ → (Result ℕ Cause) → Result (List ℕ) Cause
+text_reading out (Ok n) = Ok (take n out)
+text_reading out (Err c) = Err c
 
-abbrev pub length_told : FieldText → ℕ
-length_told (Text n) = n
-length_told (NoText c) = 0
+abbrev pub length_told : (Result ℕ Cause) → ℕ
+length_told (Ok n) = n
+length_told (Err c) = 0
 
 -- the answer is the field's text; the buffer begins with that text, up to a bad `$` and as far as it fits, and the rest of it stays
-pub record Substitutes (s : Scope) (f old new : List ℕ) (r : FieldText) : Type 0 where
+pub record Substitutes (s : Scope) (f old new : List ℕ) (r : (Result ℕ Cause)) : Type 0 where
   pub reading : text_reading new r ≡ field_text s f
   pub buffer : new ≡ laid old 0 (up_to_bad s Outside 0 f)
   pub fits : length_told r ≤ field_limit
 
 -- ---- the steps
 -- how many bytes of text there are, up to one past the limit
-abbrev pub count_told : Filled → ℕ
-count_told (Done m) = m
-count_told Full = field_limit + 1
+abbrev pub count_told : Option ℕ → ℕ
+count_told (Some m) = m
+count_told None = field_limit + 1
 
 -- xs was laid behind the first n bytes, and r counts them all, up to one past the limit
 pub record Lays (old new : List ℕ) (n : ℕ) (xs : List ℕ) (r : ℕ) : Type 0 where
@@ -146,17 +133,17 @@ pub record Lays (old new : List ℕ) (n : ℕ) (xs : List ℕ) (r : ℕ) : Type 
   pub bytes : new ≡ laid old n xs
 
 -- the answer where n bytes of text stand in front
-abbrev pub answer_from : ℕ → Reading Cause (List ℕ) → FieldText
-answer_from n (fault c) = NoText c
-answer_from n (value t) = cond (leb (n + length t) field_limit) (Text (n + length t)) (NoText FieldLength)
+abbrev pub answer_from : ℕ → Result (List ℕ) Cause → (Result ℕ Cause)
+answer_from n (Err c) = Err c
+answer_from n (Ok t) = cond (leb (n + length t) field_limit) (Ok (n + length t)) (Err FieldLength)
 
 -- a text, or what there is of it, was laid behind the first n bytes, and r is the answer
-pub record Completes (old new : List ℕ) (n : ℕ) (t : Reading Cause (List ℕ)) (xs : List ℕ) (r : FieldText) : Type 0 where
+pub record Completes (old new : List ℕ) (n : ℕ) (t : Result (List ℕ) Cause) (xs : List ℕ) (r : (Result ℕ Cause)) : Type 0 where
   pub answer : r ≡ answer_from n t
   pub bytes : new ≡ laid old n xs
 
 -- the text of the field's bytes f was
-abbrev pub Writes : Scope → Quoting → List ℕ → List ℕ → List ℕ → ℕ → FieldText → Type 0
+abbrev pub Writes : Scope → Quoting → List ℕ → List ℕ → List ℕ → ℕ → (Result ℕ Cause) → Type 0
 Writes s q f old new n r = Completes old new n (substituted s q 0 f) (up_to_bad s q 0 f) r
 
 -- the bytes from `at` up to a reference or the end were laid: whoever writes the text from there on has written all of it
@@ -166,42 +153,42 @@ pub record TextRuns (f : List ℕ) (at : ℕ) (q : Quoting) (n : ℕ) (old new :
   pub small : r.count ≤ field_limit + 1
   pub size : length new ≡ field_limit
   pub stops : r.at < length f → refers r.quoting (get_or f r.at 0) ≡ true
-  pub onward : (s : Scope) (last : List ℕ) (a : FieldText) → Writes s r.quoting (drop r.at f) new last r.count a → Writes s q (drop at f) old last n a
+  pub onward : (s : Scope) (last : List ℕ) (a : (Result ℕ Cause)) → Writes s r.quoting (drop r.at f) new last r.count a → Writes s q (drop at f) old last n a
 
 -- the reference at a place of r
-abbrev pub reference_at : Scope → List ℕ → NamePlace → Option Substitution
-reference_at s r (Name start end taken) = substitution taken (name_text s (take (end - start) (drop start r)))
-reference_at s r Missing = none
+abbrev pub reference_at : Scope → List ℕ → Option NamePlace → Option Substitution
+reference_at s r None = None
+reference_at s r (Some p) = substitution p.taken (name_text s (take (p.end - p.start) (drop p.start r)))
 
 -- the place lies in r
-abbrev pub PlacedIn : List ℕ → NamePlace → Type 0
-PlacedIn r (Name start end taken) = (start ≤ end) × (end ≤ length r) × (taken ≤ length r)
-PlacedIn r Missing = Unit {0}
+abbrev pub PlacedIn : List ℕ → Option NamePlace → Type 0
+PlacedIn r None = Unit {0}
+PlacedIn r (Some p) = (p.start ≤ p.end) × (p.end ≤ length r) × (p.taken ≤ length r)
 
 -- the reference that the bytes behind `$` begin with
-pub record Places (r : List ℕ) (p : NamePlace) : Type 0 where
+pub record Places (r : List ℕ) (p : Option NamePlace) : Type 0 where
   pub refer : (s : Scope) → reference_at s r p ≡ reference s r
   pub inside : PlacedIn r p
 
 -- the text that stands for a reference, and nothing where it is bad
 abbrev pub text_in : Option Substitution → List ℕ
-text_in none = []
-text_in (some x) = x.text
+text_in None = []
+text_in (Some x) = x.text
 
-abbrev pub referred_from : ℕ → Option Substitution → Referred
-referred_from n none = Bad
-referred_from n (some x) = Known x.taken (min (n + length x.text) (field_limit + 1))
+abbrev pub referred_from : ℕ → Option Substitution → Option Referred
+referred_from n None = None
+referred_from n (Some x) = Some (record { taken = x.taken; count = min (n + length x.text) (field_limit + 1) })
 
-abbrev pub taken_told : Referred → ℕ
-taken_told (Known taken m) = taken
-taken_told Bad = 0
+abbrev pub taken_told : Option Referred → ℕ
+taken_told None = 0
+taken_told (Some a) = a.taken
 
 -- the text of a reference was laid behind the first n bytes, and counted, where it is good
-pub record Refers (o : Option Substitution) (n : ℕ) (old new : List ℕ) (r : Referred) : Type 0 where
+pub record Refers (o : Option Substitution) (n : ℕ) (old new : List ℕ) (r : Option Referred) : Type 0 where
   pub answer : r ≡ referred_from n o
   pub bytes : new ≡ laid old n (text_in o)
 
 -- the same of the reference that some bytes begin with, which takes no more of them than there are
-pub record PutsReference (s : Scope) (rest : List ℕ) (n : ℕ) (old new : List ℕ) (r : Referred) : Type 0 where
+pub record PutsReference (s : Scope) (rest : List ℕ) (n : ℕ) (old new : List ℕ) (r : Option Referred) : Type 0 where
   pub put : Refers (reference s rest) n old new r
   pub within : taken_told r ≤ length rest

@@ -1,6 +1,6 @@
 -- `:define NAME text`: its name, its text, and the variables behind it (01, "Lines that begin with a colon").
-use Rattle.std.specs.Prelude.{not, ◌&&◌, List, ℕ, leb, length}
-use Rattle.fault.specs.Fault.{Reading, value, require}
+use Rattle.std.specs.Prelude.{not, ◌&&◌, List, ℕ, leb, length, Ok, Result}
+use Rattle.fault.specs.Fault.{require}
 use Rattle.fault.specs.declared.Cause.{Cause}
 use Rattle.fault.specs.declared.Cause.TheVariants.{NameLength, TextLength, DefineName, TooManyNames}
 use Rattle.variables.specs.Scope.{Definition, define, is_name, built_in}
@@ -18,13 +18,13 @@ abbrev pub names_limit : ℕ
 names_limit = 64
 
 -- the name's size, then its form; the built-in names can't be redefined
-unfoldable pub define_name : List ℕ → Reading Cause (List ℕ)
-define_name n = require (leb (length n) name_limit) NameLength (require (is_name n && not (built_in n)) DefineName (value n))
+unfoldable pub define_name : List ℕ → Result (List ℕ) Cause
+define_name n = require (leb (length n) name_limit) NameLength (require (is_name n && not (built_in n)) DefineName (Ok n))
 
 -- the text's size
-unfoldable pub define_text : List ℕ → Reading Cause (List ℕ)
-define_text t = require (leb (length t) text_limit) TextLength (value t)
+unfoldable pub define_text : List ℕ → Result (List ℕ) Cause
+define_text t = require (leb (length t) text_limit) TextLength (Ok t)
 
 -- the variables with one definition more; last of all, whether they are too many
-unfoldable pub define_in : Definition → List Definition → Reading Cause (List Definition)
-define_in d ds = require (leb (length (define d ds)) names_limit) TooManyNames (value (define d ds))
+unfoldable pub define_in : Definition → List Definition → Result (List Definition) Cause
+define_in d ds = require (leb (length (define d ds)) names_limit) TooManyNames (Ok (define d ds))

@@ -7,34 +7,27 @@ use super::Variables;
 use super::name::{is_built_in, is_name};
 use fault::Cause;
 
-#[derive(Drop)]
-pub enum Checked {
-    Good,
-    Fault(Cause),
-}
-
 // A name's size, then its form; a built-in name is a fault too.
-pub fn check_name(name: &[u8]) -> Checked
+#[tactic(auto, unfolding(crate::specs::Define::define_name))]
+pub fn check_name(name: &[u8]) -> Result<(), Cause>
     ensures { checked_reading result name.now ≡ define_name name.now }
 {
     if name.len() > Variables::NAME {
-        return Checked::Fault(Cause::NameLength);
+        return Err(Cause::NameLength);
     }
-    if !is_name(name) {
-        return Checked::Fault(Cause::DefineName);
+    if !is_name(name) || is_built_in(name) {
+        return Err(Cause::DefineName);
     }
-    if is_built_in(name) {
-        return Checked::Fault(Cause::DefineName);
-    }
-    Checked::Good
+    Ok(())
 }
 
 // A text's size.
-pub fn check_text(text: &[u8]) -> Checked
+#[tactic(auto, unfolding(crate::specs::Define::define_text))]
+pub fn check_text(text: &[u8]) -> Result<(), Cause>
     ensures { checked_reading result text.now ≡ define_text text.now }
 {
     if text.len() > Variables::TEXT {
-        return Checked::Fault(Cause::TextLength);
+        return Err(Cause::TextLength);
     }
-    Checked::Good
+    Ok(())
 }

@@ -1,10 +1,5 @@
-use mathlib.Core.List.{[], ◌∷◌}
 use native.Mathlib.Omega.{arith}
-use lib.ListN.{length-append}
 use Rattle.answer.proofs.grant.put_path.Goals as goal
 
 pub returns : goal.returns
-returns c = λ h.
-    let a = c.args in
-    let p = c.put_end.ensures a.out.now 0 a.path.now c.put_all-filled.ensures (omega (arith, h)) in
-    (p, omega (arith, p.end, length-append a.path.now (0 ∷ [])))
+returns c = λ h. let a = c.args in c.put_end.ensures a.out.now 0 a.path.now c.put_all-filled.ensures (omega (arith, h))

@@ -8,8 +8,8 @@ use Rattle.pattern.specs.Contract.{expansions_in, Few}
 use Rattle.condition.specs.Contract.{added_with}
 use Rattle.condition.proofs.condition.add_all.Given as goal
 
-abbrev pub invariant-loop-cause : goal.invariant-loop-cause
-invariant-loop-cause l = (l.i ≤ length l.p) × Few (list_of l.syntax false (drop l.i l.p)) × (added_with l.judging l.user l.groups l.host l.minute l.negated l.asks l.r (expansions_in (list_of l.syntax false (drop l.i l.p))) ≡ added_with l.judging l.user l.groups l.host l.minute l.negated l.asks l.initial.r (expansions_of l.syntax l.p))
+abbrev pub invariant-loop-found : goal.invariant-loop-found
+invariant-loop-found l = (l.i ≤ length l.p) × Few (list_of l.syntax false (drop l.i l.p)) × (added_with l.judging l.user l.groups l.host l.minute l.negated l.asks l.r (expansions_in (list_of l.syntax false (drop l.i l.p))) ≡ added_with l.judging l.user l.groups l.host l.minute l.negated l.asks l.initial.r (expansions_of l.syntax l.p))
 
-abbrev pub decreases-loop-cause : goal.decreases-loop-cause
-decreases-loop-cause l = length l.p - l.i
+abbrev pub decreases-loop-found : goal.decreases-loop-found
+decreases-loop-found l = length l.p - l.i

@@ -1,22 +1,11 @@
-use mathlib.Core.Path.{refl, sym, ◌∙◌}
-use Rattle.question.proofs.ZeroEnded.{some_open, some_hit, some_on, some_end_law}
-use native.Mathlib.Omega.{arith}
+use mathlib.Core.Path.{refl}
+use borrow.Author.Rules.{rules}
+use borrow.Author.Tests.{tests}
+use Rattle.std.proofs.lemmas.Iterator.Consumers.{YieldsList-from_first}
+use Rattle.std.proofs.lemmas.Iterator.Search.{any_from_yields_List}
+use Rattle.glob.specs.Match.{matches}
+use Rattle.question.specs.Contract.{strings_in}
 use Rattle.condition.proofs.judge.some_group_matches.Goals as goal
 
-pub loop-from-init : goal.loop-from-init
-loop-from-init c = refl
-
-pub returns-then-end-groups : goal.returns-then-end-groups
-returns-then-end-groups c = let l = c.loop-from in some_open _ l.from _ c.string_end-end.ensures.0 _ c.if-end-groups.true ∙ l.invariant
-
-pub returns-then-matches_one : goal.returns-then-matches_one
-returns-then-matches_one c = let l = c.loop-from in let e = c.string_end-end.ensures in let h = e.2 (omega arith) in some_hit _ l.from _ e.0 _ (omega (arith, h, c.if-end-groups.false)) (sym c.matches_one.ensures ∙ c.if-matches_one.true) ∙ l.invariant
-
-pub overflow_add-from : goal.overflow_add-from
-overflow_add-from c = let h = c.string_end-end.ensures.2 (omega arith) in omega (arith, h, c.if-end-groups.false)
-
-pub loop-from-preserved : goal.loop-from-preserved
-loop-from-preserved c = let l = c.loop-from in let e = c.string_end-end.ensures in let h = e.2 (omega arith) in some_on _ l.from _ e.0 _ (omega (arith, h, c.if-end-groups.false)) (sym c.matches_one.ensures ∙ c.if-matches_one.false) ∙ l.invariant
-
 pub returns : goal.returns
-returns c = let l = c.loop-from in some_end_law _ l.from _ c.loop-from-test.false ∙ l.invariant
+returns c = any_from_yields_List (matches c.args.pattern.now) c.any.new.self _ c.any.result c.any.ensures.ran (YieldsList-from_first (λ x. x.now) (λ s. strings_in s.0.now) _ refl) (λ x b q k. search (rules, tests))

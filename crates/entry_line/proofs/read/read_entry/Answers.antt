@@ -1,8 +1,12 @@
-use Rattle.entry_line.proofs.ReadLaws.{entry_refused, entry_acts}
+use Rattle.entry_line.proofs.ReadLaws.{entry_unjudged, entry_acts, entry_refused}
+use Rattle.std.proofs.lemmas.Result.{err_from_is_err_and}
 use Rattle.entry_line.proofs.read.read_entry.Goals as goal
 
-pub returns-in-Fault : goal.returns-in-Fault
-returns-in-Fault c = entry_refused _ c.read_fields-read.ensures c.in-Fault.is
+pub returns-in_err-entry : goal.returns-in_err-entry
+returns-in_err-entry c = let q = err_from_is_err_and c.from_residual.result c.from_residual.ensures.1 in rw (q.1, q.2) (entry_refused c.in_err-entry.ensures)
 
-pub returns-in-Good : goal.returns-in-Good
-returns-in-Good c = entry_acts _ c.read_fields-read.ensures c.in-Good.is c.action_of.ensures
+pub returns-then-not-judging : goal.returns-then-not-judging
+returns-then-not-judging c = entry_unjudged c.in_ok-entry.ensures c.if-not-judging.true
+
+pub returns : goal.returns
+returns c = entry_acts c.in_ok-entry.ensures c.if-not-judging.false c.accepts.ensures

@@ -1,4 +1,3 @@
-use Prim.Native.Nat.{◌-◌}
 use Rattle.line.specs.Contract.{fields_in}
 use Rattle.question.specs.Contract.{strings_in}
 use Rattle.variables.specs.Contract.{scope_in}
@@ -8,6 +7,3 @@ use Rattle.entry_line.proofs.read.read_fields.Given as goal
 
 abbrev pub invariant-loop-i : goal.invariant-loop-i
 invariant-loop-i l = ReadUpTo (judge_of l.user (strings_in l.groups) l.host l.minute.0) (scope_in l.user l.host l.bytes l.sizes l.names) l.judging l.command (fields_in l.text l.ends l.count) l.from l.entry l.i
-
-abbrev pub decreases-loop-i : goal.decreases-loop-i
-decreases-loop-i l = l.most - l.i

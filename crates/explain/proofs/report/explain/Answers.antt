@@ -21,7 +21,7 @@ unfolding cut_short_words
 returns-in-CutShort c = explained_by _ _ _ _ c.put_name-named.ensures c.then_refusal_at-in-CutShort.ensures (finding_cut _ _ c.in-CutShort.is)
 
 pub returns-in-RefusedLine : goal.returns-in-RefusedLine
-returns-in-RefusedLine c = explained_by _ _ _ _ c.put_name-named.ensures c.then_fault_at.ensures (finding_line _ _ c.at_most.ensures.0 c.in-RefusedLine.is)
+returns-in-RefusedLine c = explained_by _ _ _ _ c.put_name-named.ensures c.then_refusal_at-in-RefusedLine.ensures (finding_line _ _ c.number.ensures c.words_of.ensures c.in-RefusedLine.is)
 
 pub returns-in-SmallBuffer : goal.returns-in-SmallBuffer
 unfolding finding

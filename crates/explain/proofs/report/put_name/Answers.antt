@@ -2,4 +2,4 @@ use Rattle.explain.proofs.ExplainLaws.{name_put}
 use Rattle.explain.proofs.report.put_name.Goals as goal
 
 pub returns : goal.returns
-returns c = name_put _ c.put_all-front.ensures c.then_row.ensures
+returns c = name_put _ c.then_row.ensures

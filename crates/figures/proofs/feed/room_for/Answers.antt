@@ -5,8 +5,5 @@ use Rattle.figures.proofs.feed.room_for.Goals as goal
 pub returns-then-given-ge-LIMIT : goal.returns-then-given-ge-LIMIT
 returns-then-given-ge-LIMIT c = room_of _ _ _ (omega arith)
 
-pub returns-then-records-room : goal.returns-then-records-room
-returns-then-records-room c = room_of _ _ _ (omega arith)
-
 pub returns : goal.returns
-returns c = room_of _ _ _ (omega arith)
+returns c = room_of _ _ _ c.min.ensures

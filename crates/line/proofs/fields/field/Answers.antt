@@ -3,8 +3,8 @@ use native.Mathlib.Omega.{arith}
 use Rattle.line.proofs.AccessLaws.{field_past, field_here, start_within}
 use Rattle.line.proofs.fields.field.Goals as goal
 
-pub returns-then-i-at_most : goal.returns-then-i-at_most
-returns-then-i-at_most c = field_past _ _ _ _ (rw c.at_most.ensures.0 at c.if-i-at_most.true)
+pub returns-then-i-min : goal.returns-then-i-min
+returns-then-i-min c = field_past _ _ _ _ (rw c.min.ensures at c.if-i-min.true)
 
 pub returns : goal.returns
-returns c = field_here _ _ _ _ _ _ (rw c.at_most.ensures.0 at c.if-i-at_most.false) c.at_most-end.ensures.0 (rw (c.start_of.ensures ∙ sym (start_within _ _ (omega arith))) at c.at_most-start.ensures.0)
+returns c = field_here _ _ _ _ _ _ (rw c.min.ensures at c.if-i-min.false) c.min-end.ensures (rw (c.start_of.ensures ∙ sym (start_within _ _ (omega arith))) at c.min-start.ensures)

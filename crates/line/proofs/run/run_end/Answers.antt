@@ -1,16 +1,12 @@
-use Rattle.line.proofs.JoinedLaws.{leading_on, leading_stop, leading_end}
-use native.Mathlib.Omega.{arith}
-use mathlib.Core.Path.{refl, sym, ◌∙◌}
+use Rattle.std.proofs.Common.{rules, not}
+use Rattle.std.proofs.lemmas.Iterator.{YieldsList-from_slice}
+use Rattle.std.proofs.lemmas.Iterator.Search.{position_from_yields_List}
+use borrow.Author.Tests.{tests}
+use Rattle.line.specs.Contract.{in_run}
+use Rattle.line.proofs.JoinedLaws.{run_ends}
 use Rattle.line.proofs.run.run_end.Goals as goal
 
-pub loop-i-init : goal.loop-i-init
-loop-i-init c = (omega arith, omega arith, refl)
-
-pub returns-then-not-is_in : goal.returns-then-not-is_in
-returns-then-not-is_in c = (leading_stop _ _ _ c.loop-i-test.true (sym c.is_in.ensures ∙ c.if-not-is_in.true) ∙ c.loop-i.invariant.2, omega arith, omega arith)
-
-pub loop-i-preserved : goal.loop-i-preserved
-loop-i-preserved c = (omega arith, omega arith, leading_on _ _ _ c.loop-i-test.true (sym c.is_in.ensures ∙ c.if-not-is_in.false) ∙ c.loop-i.invariant.2)
-
 pub returns : goal.returns
-returns c = (leading_end _ _ _ c.loop-i-test.false ∙ c.loop-i.invariant.2, omega arith, omega arith)
+returns c =
+    let a = c.args in
+    run_ends (in_run a.run) a.line.now a.from c.requires (position_from_yields_List (λ b. not (in_run a.run b)) _ _ _ c.position.ensures.ran (YieldsList-from_slice _ c.iter.ensures.rest) (λ x b q k. search (rules, tests))) c.unwrap_or.ensures

@@ -1,12 +1,12 @@
-use Prim.Native.Nat.{◌-◌, ◌≤◌}
+use Prim.Native.Nat.{◌-◌}
 use lib.ListN.{length}
 use Rattle.line.specs.Contract.{continues_in}
 use Rattle.line.proofs.WholeLaws.{LastFrom}
 use Rattle.line.proofs.whole.last_end.Given as goal
 
 -- the last end among the lines from here on is that of all lines
-abbrev pub invariant-loop-at : goal.invariant-loop-at
-invariant-loop-at l = (l.at ≤ length l.text) × LastFrom (continues_in l.continuation) l.text l.at
+abbrev pub invariant-loop-line : goal.invariant-loop-line
+invariant-loop-line l = LastFrom (continues_in l.continuation) l.text l.at
 
-abbrev pub decreases-loop-at : goal.decreases-loop-at
-decreases-loop-at l = length l.text - l.at
+abbrev pub decreases-loop-line : goal.decreases-loop-line
+decreases-loop-line l = length l.text - l.at

@@ -1,13 +1,13 @@
 use mathlib.Core.Path.{refl, sym, ap, ◌∙◌}
 use native.Mathlib.Omega.{arith}
 use borrow.Author.Rules.{rules}
-use lib.ListN.{length, length-drop}
-use Rattle.text.proofs.Laws.{part_rest, part_start}
+use lib.ListN.{length, length-drop, length-take}
+use Rattle.text.proofs.Laws.{part_rest}
 use Rattle.log_text.proofs.OutputLaws.{hands_start, hands_failed, hands_shown, hands_all}
 use Rattle.log_text.proofs.show.print_records.Goals as goal
 
 pub loop-at-init : goal.loop-at-init
-loop-at-init c = (omega arith, refl, c.requires, refl, hands_start c.args.block.now _ (omega (arith, c.type_inv)))
+loop-at-init c = (omega arith, refl, c.requires, refl, hands_start c.args.block.now _ (omega arith))
 
 pub overflow_sub-block : goal.overflow_sub-block
 overflow_sub-block c = omega arith
@@ -24,23 +24,14 @@ slice_bounds-show_block-end c = omega arith
 pub show_block-shown-requires : goal.show_block-shown-requires
 show_block-shown-requires c = omega arith
 
-pub slice_bounds-write_waiting-count : goal.slice_bounds-write_waiting-count
-slice_bounds-write_waiting-count c = omega arith
-
-pub slice_bounds-write_waiting-start : goal.slice_bounds-write_waiting-start
-slice_bounds-write_waiting-start c = omega arith
-
 pub slice_bounds-write_waiting-end : goal.slice_bounds-write_waiting-end
-slice_bounds-write_waiting-end c = omega (arith, c.show_block-shown.ensures.reached.within)
-
-pub write_waiting-output-requires : goal.write_waiting-output-requires
-write_waiting-output-requires c = part_start c.show_block-shown.result.waiting c.show_block-shown.new.out
+slice_bounds-write_waiting-end c = omega (arith, c.show_block-shown.ensures.reached.within, length-take c.show_block-shown.result.waiting c.show_block-shown.new.out)
 
 pub overflow_add-at : goal.overflow_add-at
 overflow_add-at c = let l = c.loop-at in
     let s = c.args.block.now in
     let z = ap length (part_rest l.at s) ∙ length-drop l.at s in
-    omega (arith, c.show_block-shown.ensures.shows.part, z, l.invariant.0, c.type_inv)
+    omega (arith, c.show_block-shown.ensures.shows.part, z, l.invariant.0)
 
 pub loop-at-smaller : goal.loop-at-smaller
 loop-at-smaller c = let l = c.loop-at in

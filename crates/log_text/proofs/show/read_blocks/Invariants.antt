@@ -5,8 +5,5 @@ use lib.ListN.{length, take}
 use Rattle.log_text.specs.Contract.{Reads}
 use Rattle.log_text.proofs.show.read_blocks.Given as goal
 
-abbrev pub invariant-loop-turns : goal.invariant-loop-turns
-invariant-loop-turns l = (l.run.begun ≤ length l.block) × (length l.block ≡ length l.initial.block) × (length l.out ≡ length l.initial.out) × (32 ≤ length l.out) × ((input : List ℕ) × Reads input (take l.run.begun l.block) l.run)
-
-abbrev pub decreases-loop-turns : goal.decreases-loop-turns
-decreases-loop-turns l = l.turns
+abbrev pub invariant-loop : goal.invariant-loop
+invariant-loop l = (l.run.begun ≤ length l.block) × (length l.block ≡ length l.initial.block) × (length l.out ≡ length l.initial.out) × (32 ≤ length l.out) × ((input : List ℕ) × Reads input (take l.run.begun l.block) l.run)

@@ -1,12 +1,9 @@
-use mathlib.Core.Path.{refl, ap}
+use mathlib.Core.Path.{refl}
 use native.Mathlib.Omega.{arith}
-use Rattle.text.proofs.Laws.{part_start}
-use Rattle.log_text.specs.LogText.{record_lines}
 use Rattle.log_text.proofs.LogLaws.{left_moved}
-use Rattle.log_text.proofs.OutputLaws.{hands_as}
 use Rattle.log_text.proofs.show.take_block.Goals as goal
 
 pub returns : goal.returns
 returns c = let a = c.args in
     let p = c.requires in
-    record { begun_in_bounds = omega arith; follows = record { left_over = left_moved a.block.now _ a.end p.0 c.move_front.ensures; lines = hands_as (ap record_lines (part_start a.end a.block.now)) c.print_records-output.ensures; going = c.is_whole.ensures; ended = refl } }
+    record { begun_in_bounds = omega arith; follows = record { left_over = left_moved a.block.now _ a.end p.0 c.move_front.ensures; lines = c.print_records-output.ensures; going = c.is_whole.ensures; ended = refl } }

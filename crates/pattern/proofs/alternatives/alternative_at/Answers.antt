@@ -5,14 +5,16 @@ use Rattle.pattern.proofs.alternatives.alternative_at.Goals as goal
 pub returns-then-p-at : goal.returns-then-p-at
 returns-then-p-at c = past_end _ _ _ c.if-p-at.true
 
+pub returns-in_err-end : goal.returns-in_err-end
+returns-in_err-end c = rw c.from_residual.ensures (fails_from _ _ _ c.if-p-at.false c.in_err-end.ensures)
+
+pub returns-in_err-read-in-Opens : goal.returns-in_err-read-in-Opens
+returns-in_err-read-in-Opens c = rw c.from_residual-in_err-read-in-Opens.ensures (malformed_from _ _ _ c.if-p-at.false (told_none _ _ _ c.in_err-read-in-Opens.ensures))
+
 pub returns-in-Ends : goal.returns-in-Ends
-returns-in-Ends c = flat_from _ _ _ c.if-p-at.false _ (rw c.in-Ends.is at c.run_at.ensures)
+returns-in-Ends c = flat_from _ _ _ c.if-p-at.false _ (rw c.in-Ends.is at c.in_ok-end.ensures)
 
-pub returns-in-Done : goal.returns-in-Done
-returns-in-Done c = braced_from _ _ _ c.if-p-at.false _ _ _ _ (rw c.in-Opens.is at c.run_at.ensures) (rw c.in-Done.is at c.pattern.ensures)
-
-pub returns-in-Malformed-pattern : goal.returns-in-Malformed-pattern
-returns-in-Malformed-pattern c = malformed_from _ _ _ c.if-p-at.false (told_none _ _ _ (rw c.in-Malformed-pattern.is at c.pattern.ensures))
-
-pub returns-in-Malformed : goal.returns-in-Malformed
-returns-in-Malformed c = fails_from _ _ _ c.if-p-at.false (rw c.in-Malformed.is at c.run_at.ensures)
+pub returns-in_ok-read-in-Opens : goal.returns-in_ok-read-in-Opens
+returns-in_ok-read-in-Opens c =
+    let r = c.in_ok-read-in-Opens.read in
+    braced_from _ _ _ c.if-p-at.false _ r.next r.depth r.number (rw c.in-Opens.is at c.in_ok-end.ensures) c.in_ok-read-in-Opens.ensures

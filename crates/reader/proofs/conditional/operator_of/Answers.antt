@@ -1,17 +1,12 @@
-use native.Mathlib.Omega.{arith}
-use Rattle.reader.specs.Colon.{operator_of}
-use Rattle.variables.proofs.TextLaws.{text_kept, text_fault, text_value, text_room, text_length}
+use Rattle.std.proofs.lemmas.Result.{err_from_is_err_and}
 use Rattle.fault.proofs.Readings.{then_fault, then_value}
+use mathlib.Core.Path.{refl}
+use Rattle.variables.proofs.TextLaws.{text_fault, text_value}
+use Rattle.reader.specs.Colon.{operator_of}
 use Rattle.reader.proofs.conditional.operator_of.Goals as goal
 
-pub slice_bounds-scratch-end : goal.slice_bounds-scratch-end
-slice_bounds-scratch-end c = text_room c.field_text.ensures c.in-Text.is (omega arith)
+pub returns-in_err-n : goal.returns-in_err-n
+returns-in_err-n c = let q = err_from_is_err_and c.from_residual.result c.from_residual.ensures.1 in rw (q.1, q.2) (then_fault operator_of (text_fault c.in_err-n.ensures refl))
 
-pub slice_bounds-operator_in-end : goal.slice_bounds-operator_in-end
-slice_bounds-operator_in-end c = let u = c.field_text.ensures in text_length u c.in-Text.is (omega (arith, text_kept u))
-
-pub returns-in-Fault : goal.returns-in-Fault
-returns-in-Fault c = then_fault operator_of (text_fault c.field_text.ensures c.in-Fault.is)
-
-pub returns-in-Text : goal.returns-in-Text
-returns-in-Text c = then_value operator_of (text_value c.field_text.ensures c.in-Text.is) c.operator_in.ensures
+pub returns : goal.returns
+returns c = then_value operator_of (text_value c.in_ok-n.ensures refl) c.operator_in.ensures

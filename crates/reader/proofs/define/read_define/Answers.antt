@@ -1,18 +1,12 @@
-use mathlib.Core.Path.{sym}
-use lib.Seq.{length-take-le}
-use Rattle.reader.proofs.DefineLaws.{definition_fault, definition_good, definition_within, line_fault, line_refused, line_placed}
+use Rattle.std.proofs.lemmas.Result.{err_from_is_err_and}
+use Rattle.reader.proofs.DefineLaws.{line_fault, line_refused, line_placed}
 use Rattle.reader.proofs.define.read_define.Goals as goal
 
-pub slice_bounds-place_for-end : goal.slice_bounds-place_for-end
-slice_bounds-place_for-end c = sym (length-take-le _ _ (definition_within _ _ c.read_definition.ensures.within c.in-Good.is).0)
+pub returns-in_err-read : goal.returns-in_err-read
+returns-in_err-read c = let q = err_from_is_err_and c.from_residual.result c.from_residual.ensures.1 in rw (q.1, q.2) (line_fault _ _ _ _ _ _ _ _ c.in_err-read.ensures.reading)
 
-pub returns-in-Fault : goal.returns-in-Fault
-returns-in-Fault c = line_fault _ _ _ _ _ _ _ _ (definition_fault _ _ c.read_definition.ensures.reading c.in-Fault.is)
+pub returns-in_err-goes : goal.returns-in_err-goes
+returns-in_err-goes c = let q = err_from_is_err_and c.from_residual-in_err-goes.result c.from_residual-in_err-goes.ensures.1 in rw (q.1, q.2) (line_refused _ _ _ _ _ _ _ _ c.in_ok-read.read.name c.in_ok-read.read.text c.in_ok-read.ensures.reading c.in_err-goes.ensures)
 
-pub returns-in-Fault-place_for : goal.returns-in-Fault-place_for
-returns-in-Fault-place_for c = let d = definition_good _ _ c.read_definition.ensures.reading c.in-Good.is in line_refused _ _ _ _ _ _ _ _ c.in-Good.k c.in-Good.n d (rw c.in-Fault-place_for.is at c.place_for.ensures)
-
-pub returns-in-At : goal.returns-in-At
-returns-in-At c = let r = c.read_definition.ensures in
-    let w = definition_within _ _ r.within c.in-Good.is in
-    line_placed _ _ _ _ _ _ _ _ c.in-Good.k c.in-Good.n (definition_good _ _ r.reading c.in-Good.is) w.0 w.1 (rw c.in-At.is at c.place_for.ensures)
+pub returns : goal.returns
+returns c = let r = c.in_ok-read.ensures in line_placed _ _ _ _ _ _ _ _ c.in_ok-read.read.name c.in_ok-read.read.text r.reading r.within.0 r.within.1 c.in_ok-goes.ensures

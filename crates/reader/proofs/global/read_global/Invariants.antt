@@ -1,7 +1,4 @@
-use mathlib.Core.Path.{◌≡◌}
 use mathlib.Core.List.{List, []}
-use Prim.Native.Nat.{◌-◌}
-use lib.ListN.{length}
 use Rattle.line.specs.Contract.{fields_in}
 use Rattle.question.specs.Contract.{strings_in}
 use Rattle.variables.specs.Contract.{scope_in}
@@ -11,7 +8,4 @@ use Rattle.reader.proofs.GlobalLaws.{SoFar}
 use Rattle.reader.proofs.global.read_global.Given as goal
 
 abbrev pub invariant-loop-i : goal.invariant-loop-i
-invariant-loop-i l = (length l.scratch ≡ 1024) × ((ps : List ArgumentPattern) → Sums ps (strings_in l.args) l.initial.read [] → SoFar ps (strings_in l.args) (scope_in l.user l.host l.bytes l.sizes l.names) (fields_in l.text l.ends l.count) l.from l.i l.read)
-
-abbrev pub decreases-loop-i : goal.decreases-loop-i
-decreases-loop-i l = l.most - l.i
+invariant-loop-i l = (ps : List ArgumentPattern) → Sums ps (strings_in l.args) l.initial.read [] → SoFar ps (strings_in l.args) (scope_in l.user l.host l.bytes l.sizes l.names) (fields_in l.text l.ends l.count) l.from l.i l.read

@@ -1,17 +1,21 @@
-use borrow.Author.Tests.{not-true, not-false}
-use Rattle.record_log.proofs.RecogniseLaws.{records_on, records_stop, records_end}
-use mathlib.Core.Path.{refl, sym, ◌∙◌}
-use native.Mathlib.Omega.{arith}
+use Rattle.std.proofs.Common.{sym, ◌∙◌}
+use Rattle.record_log.proofs.RecogniseLaws.{record_good, record_bad, records_end}
 use Rattle.record_log.proofs.recognise.all_records.Goals as goal
 
-pub loop-at-init : goal.loop-at-init
-loop-at-init c = (omega arith, refl)
-
 pub returns-then-not-is_record : goal.returns-then-not-is_record
-returns-then-not-is_record c = records_stop _ c.loop-at.at c.loop-at-test.true (sym c.is_record.ensures ∙ not-true _ c.if-not-is_record.true-raw) ∙ c.loop-at.invariant.1
+returns-then-not-is_record c =
+    let l = c.loop-bytes in
+    let g = c.in-Some.ensures.steps in
+    record_bad c.in-Some.bytes.now _ (g.1.1 ∙ l.invariant.0) g.1.0 (sym c.is_record.ensures ∙ c.if-not-is_record.true) ∙ l.invariant.1
 
-pub loop-at-preserved : goal.loop-at-preserved
-loop-at-preserved c = (omega arith, records_on _ c.loop-at.at c.loop-at-test.true (sym c.is_record.ensures ∙ not-false _ c.if-not-is_record.false-raw) ∙ c.loop-at.invariant.1)
+pub loop-bytes-preserved : goal.loop-bytes-preserved
+loop-bytes-preserved c =
+    let l = c.loop-bytes in
+    let g = c.in-Some.ensures.steps in
+    (g.0 ∙ l.invariant.0, record_good c.in-Some.bytes.now _ (g.1.1 ∙ l.invariant.0) g.1.0 (sym c.is_record.ensures ∙ c.if-not-is_record.false) ∙ l.invariant.1)
 
 pub returns : goal.returns
-returns c = records_end _ c.loop-at.at c.loop-at-test.false ∙ c.loop-at.invariant.1
+returns c =
+    let l = c.loop-bytes in
+    let g = c.in-None.ensures.steps in
+    records_end _ (rw l.invariant.0 at g.1.0) ∙ l.invariant.1

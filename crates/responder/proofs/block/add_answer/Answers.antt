@@ -14,26 +14,26 @@ pub slice_bounds-respond_from-end-3 : goal.slice_bounds-respond_from-end-3
 slice_bounds-respond_from-end-3 c = let a = c.args in omega (arith, c.record_end-end.ensures, end_most a.progress.records a.logged)
 
 pub overflow_add-result : goal.overflow_add-result
-overflow_add-result c = let h = response_room _ _ _ _ _ _ c.respond_from.ensures c.in-Written.is in omega (arith, h)
+overflow_add-result c = let h = response_room _ _ _ _ _ _ c.respond_from.ensures c.in-Some.is in omega (arith, h)
 
-pub overflow_add-result-in-Written : goal.overflow_add-result-in-Written
-overflow_add-result-in-Written c = let a = c.args in
+pub overflow_add-result-in-Some : goal.overflow_add-result-in-Some
+overflow_add-result-in-Some c = let a = c.args in
     let w = a.progress.records in
     let e = c.record_end-end in
     let g : e.result ≤ length a.records.now = omega (arith, e.ensures, end_most w a.logged, c.requires.1.1) in
     let z : e.result - w ≡ cond a.logged 8 0 = omega (arith, e.ensures) in
     let p = part_length a.records.now w e.result g in
-    omega (arith, p, record_room _ _ _ _ _ _ c.respond_from.ensures c.in-Written.is (logged_short _ _ _) a.logged (p ∙ z))
+    omega (arith, p, record_room _ _ _ _ _ _ c.respond_from.ensures c.in-Some.is (logged_short _ _ _) a.logged (p ∙ z))
 
-pub returns-in-Written : goal.returns-in-Written
-returns-in-Written c = let a = c.args in
+pub returns-in-Some : goal.returns-in-Some
+returns-in-Some c = let a = c.args in
     let w = a.progress.records in
     let e = c.record_end-end in
     let g : e.result ≤ length a.records.now = omega (arith, e.ensures, end_most w a.logged, c.requires.1.1) in
     let z : e.result - w ≡ cond a.logged 8 0 = omega (arith, e.ensures) in
     let p = part_length a.records.now w e.result g in
     let h = c.respond_from.ensures in
-    let k = c.in-Written.is in
+    let k = c.in-Some.is in
     let cut : a.progress.line - 0 ≡ a.progress.line = omega arith in record {
       within = (omega arith, omega (arith, response_room _ _ _ _ _ _ h k), omega (arith, p, record_room _ _ _ _ _ _ h k (logged_short _ _ _) a.logged (p ∙ z)));
       put = record {
@@ -43,5 +43,5 @@ returns-in-Written c = let a = c.args in
       };
     }
 
-pub returns-in-SmallBuffer : goal.returns-in-SmallBuffer
-returns-in-SmallBuffer c = let h = small_buffer _ _ _ _ _ _ c.respond_from.ensures c.in-SmallBuffer.is in absurd (omega (arith, h))
+pub returns-in-None : goal.returns-in-None
+returns-in-None c = let h = small_buffer _ _ _ _ _ _ c.respond_from.ensures c.in-None.is in absurd (omega (arith, h))

@@ -1,7 +1,10 @@
-use mathlib.Core.Path.{refl}
+use mathlib.Core.Path.{◌≡◌, refl, subst}
+use Prim.Native.Nat.{ℕ}
 use native.Mathlib.Omega.{arith}
 use borrow.Author.Rules.{rules}
+use lib.ListN.{length, take}
 use lib.Seq.{length-take-le}
+use Rattle.responder.specs.Contract.{stand_in, Takes}
 use Rattle.responder.proofs.BlockLaws.{waits_as, moved}
 use Rattle.responder.proofs.SeriesLaws.{takes_none, takes_next, takes_sized}
 use Rattle.responder.proofs.block.answer_block.Goals as goal
@@ -30,4 +33,9 @@ loop-i-preserved c = let l = c.loop-i in
 
 pub returns : goal.returns
 returns c = let l = c.loop-i in
-    record { reached = record { within = l.invariant.1; part = l.invariant.0; stops = λ h. absurd (omega arith); moves = λ r h. omega arith }; takes = l.invariant.6 }
+    let a = c.args in
+    let z : l.i ≡ length a.block.now = omega arith in
+    record {
+      reached = record { within = l.invariant.1; part = omega arith; stops = λ h. absurd (omega arith); moves = λ r h. h };
+      takes = subst (λ (n : ℕ). Takes a.source a.file.now a.logged (length a.line.now) (stand_in a.line.now a.out.now a.records.now a.start) (take n a.block.now) (stand_in l.line l.out l.records l.progress)) z l.invariant.6;
+    }

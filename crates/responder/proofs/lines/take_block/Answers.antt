@@ -5,7 +5,7 @@ use lib.ListN.{length, length-drop}
 use Rattle.text.proofs.Laws.{part_rest}
 use Rattle.responder.proofs.BlockLaws.{not_going}
 use Rattle.responder.proofs.CountedLaws.{handed_none}
-use Rattle.responder.proofs.SeriesLaws.{takes_sized, stand_written, served_none, served_on}
+use Rattle.responder.proofs.SeriesLaws.{takes_logged, takes_sized, stand_written, served_none, served_on}
 use Rattle.responder.proofs.lines.take_block.Goals as goal
 
 pub loop-i-init : goal.loop-i-init
@@ -43,7 +43,7 @@ loop-i-preserved c = let l = c.loop-i in
       search rules,
       search rules,
       search rules,
-      served_on _ _ _ _ _ _ (part_rest l.i s) l.invariant.5 (takes_sized _ _ l.invariant.2 e.takes) w.handed w.going (stand_written _ _ _ c.answer_block-taken.result.progress _ w.line w.answers w.records),
+      served_on _ _ _ _ _ _ (part_rest l.i s) l.invariant.5 (takes_logged _ _ c.is_open-is_open.ensures (takes_sized _ _ l.invariant.2 e.takes)) w.handed w.going (stand_written _ _ _ c.answer_block-taken.result.progress _ w.line w.answers w.records),
     )
 
 pub returns-else-run : goal.returns-else-run

@@ -6,10 +6,10 @@ pub returns-in_default : goal.returns-in_default
 returns-in_default c = malformed_answer c.read_su_question_line.ensures _ c.in_default.is
 
 pub overflow_add-target : goal.overflow_add-target
-overflow_add-target c = let w = pieces_placed c.read_su_question_line.ensures c.in-Asks.is in omega (arith, w.0, w.1)
+overflow_add-target c = let w = pieces_placed c.read_su_question_line.ensures c.in-Some.is in omega (arith, w.0, w.1)
 
 pub slice_bounds-su_answer-count-2 : goal.slice_bounds-su_answer-count-2
-slice_bounds-su_answer-count-2 c = let w = pieces_placed c.read_su_question_line.ensures c.in-Asks.is in omega (arith, w.0, w.1)
+slice_bounds-su_answer-count-2 c = let w = pieces_placed c.read_su_question_line.ensures c.in-Some.is in omega (arith, w.0, w.1)
 
 pub returns : goal.returns
-returns c = asked_answer c.read_su_question_line.ensures _ c.in-Asks.is c.su_answer.ensures.meaning
+returns c = asked_answer c.read_su_question_line.ensures _ c.in-Some.is c.su_answer.ensures.meaning

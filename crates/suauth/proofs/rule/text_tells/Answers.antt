@@ -1,34 +1,44 @@
-use mathlib.Core.Path.{sym, ap, ◌∙◌}
-use Prim.Native.Nat.{◌<◌}
-use native.Mathlib.Omega.{arith}
-use lib.ListN.{length}
+use Rattle.std.proofs.Common.{rules, tests, ◌≡◌, false, Err, sym, ap, ◌∙◌}
+use Rattle.std.specs.List.{slice_split}
+use Rattle.std.proofs.lemmas.Iterator.{YieldsList}
+use Rattle.std.proofs.lemmas.Iterator.Splits.{YieldsList-from_slice_split}
+use Rattle.text.specs.Bytes.{is}
+use Rattle.text.specs.Lists.{null}
+use Rattle.text.specs.Slice.{head_is}
+use Rattle.suauth.specs.Rule.{malformed, rule_of, parts_rule, text_rule}
 use Rattle.suauth.specs.Contract.{question_in, line_tells}
-use Rattle.suauth.proofs.RuleLaws.{text_none, text_comment, one_part, two_parts, four_parts, three_parts}
+use Rattle.suauth.proofs.RuleLaws.{text_skipped, text_parts, one_part, two_parts, three_parts, four_parts}
 use Rattle.suauth.proofs.rule.text_tells.Goals as goal
+use Rattle.suauth.proofs.rule.text_tells.Goals.{then-is_empty-via-then-is_empty, then-is_empty-via-else-is_empty+then-head_is}
 
-pub returns-then-text-eq0 : goal.returns-then-text-eq0
-returns-then-text-eq0 c = let a = c.args in text_none (question_in a.target.now a.user.now a.groups.now) _ c.if-text-eq0.true
+pub returns-then-is_empty : goal.returns-then-is_empty
+returns-then-is_empty c =
+    let a = c.args in
+    text_skipped (question_in a.target.now a.user.now a.groups.now) a.text.now (search rules)
 
-pub returns-then-head_is : goal.returns-then-head_is
-returns-then-head_is c = let a = c.args in text_comment (question_in a.target.now a.user.now a.groups.now) _ c.if-text-eq0.false (sym c.head_is.ensures ∙ c.if-head_is.true)
+pub returns-in_default : goal.returns-in_default
+unfolding line_tells
+returns-in_default c =
+    let a = c.args in
+    let w = c.in_default in
+    rw (text_parts a.text.now (search rules) (search rules), four_parts _ _ c.split-parts.result c.next.new.self c.next-2.new.self (YieldsList-from_slice_split _ (is ":") a.text.now c.split-parts.ensures.rest c.split-parts.ensures.done c.split-parts.ensures.closure (λ x b q k. search (rules, tests))) w.field-0-0 w.ensures.steps w.field-0-1 w.ensures'.steps c.next-3.new.self w.field-0-2 w.ensures''.steps c.next-4.new.self w.field-0-3 w.ensures'''.steps)
 
-pub returns-then-first-text : goal.returns-then-first-text
-returns-then-first-text c = let a = c.args in one_part (question_in a.target.now a.user.now a.groups.now) _ c.if-text-eq0.false (sym c.head_is.ensures ∙ c.if-head_is.false) _ c.byte_from-first.ensures.0 c.if-first-text.true
+pub returns-in_default-2 : goal.returns-in_default-2
+unfolding line_tells
+returns-in_default-2 c =
+    let a = c.args in
+    let w = c.in_default in
+    rw (text_parts a.text.now (search rules) (search rules), two_parts _ _ c.split-parts.result c.next.new.self c.next-2.new.self (YieldsList-from_slice_split _ (is ":") a.text.now c.split-parts.ensures.rest c.split-parts.ensures.done c.split-parts.ensures.closure (λ x b q k. search (rules, tests))) w.field-0-0 w.ensures.steps w.field-0-1 w.ensures'.steps c.next-3.new.self w.ensures''.steps)
 
-pub overflow_add-first : goal.overflow_add-first
-overflow_add-first c = let h = c.byte_from-first.ensures.2 (omega arith) in omega (arith, h, c.if-first-text.false)
-
-pub returns-then-second-text : goal.returns-then-second-text
-returns-then-second-text c = let a = c.args in let h = c.byte_from-first.ensures.2 (omega arith) in let k : c.byte_from-first.result < length a.text.now = omega (arith, h, c.if-first-text.false) in two_parts (question_in a.target.now a.user.now a.groups.now) _ c.if-text-eq0.false (sym c.head_is.ensures ∙ c.if-head_is.false) _ c.byte_from-first.ensures.0 k _ c.byte_from-second.ensures.0 c.if-second-text.true
-
-pub overflow_add-second : goal.overflow_add-second
-overflow_add-second c = let a = c.args in let h = c.byte_from-first.ensures.2 (omega arith) in let k : c.byte_from-first.result < length a.text.now = omega (arith, h, c.if-first-text.false) in let h = c.byte_from-second.ensures.2 (omega arith) in omega (arith, h, c.if-second-text.false)
-
-pub returns-then-third-text : goal.returns-then-third-text
-returns-then-third-text c = let a = c.args in let h = c.byte_from-first.ensures.2 (omega arith) in let k : c.byte_from-first.result < length a.text.now = omega (arith, h, c.if-first-text.false) in let m = c.byte_from-second.ensures.2 (omega arith) in let l : c.byte_from-second.result < length a.text.now = omega (arith, m, c.if-second-text.false) in four_parts (question_in a.target.now a.user.now a.groups.now) _ c.if-text-eq0.false (sym c.head_is.ensures ∙ c.if-head_is.false) _ c.byte_from-first.ensures.0 k _ c.byte_from-second.ensures.0 l _ c.byte_from-third.ensures.0 c.if-third-text.true
-
-pub slice_bounds-rule_tells-count-3 : goal.slice_bounds-rule_tells-count-3
-slice_bounds-rule_tells-count-3 c = let h = c.byte_from-first.ensures.2 (omega arith) in let m = c.byte_from-second.ensures.2 (omega (arith, h, c.if-first-text.false)) in omega (arith, m, c.if-second-text.false)
+pub returns-in_default-3 : goal.returns-in_default-3
+unfolding line_tells
+returns-in_default-3 c =
+    let a = c.args in
+    let w = c.in_default in
+    rw (text_parts a.text.now (search rules) (search rules), one_part _ _ c.split-parts.result c.next.new.self c.next-2.new.self (YieldsList-from_slice_split _ (is ":") a.text.now c.split-parts.ensures.rest c.split-parts.ensures.done c.split-parts.ensures.closure (λ x b q k. search (rules, tests))) w.field-0-0 w.ensures.steps w.ensures'.steps)
 
 pub returns : goal.returns
-returns c = let a = c.args in let h = c.byte_from-first.ensures.2 (omega arith) in let k : c.byte_from-first.result < length a.text.now = omega (arith, h, c.if-first-text.false) in let m = c.byte_from-second.ensures.2 (omega arith) in let l : c.byte_from-second.result < length a.text.now = omega (arith, m, c.if-second-text.false) in c.rule_tells.ensures ∙ ap (line_tells (question_in a.target.now a.user.now a.groups.now)) (three_parts (question_in a.target.now a.user.now a.groups.now) _ c.if-text-eq0.false (sym c.head_is.ensures ∙ c.if-head_is.false) _ c.byte_from-first.ensures.0 k _ c.byte_from-second.ensures.0 l _ c.byte_from-third.ensures.0 c.if-third-text.false)
+returns c =
+    let a = c.args in
+    let w = c.in-Some-Some-Some-None in
+    rw (text_parts a.text.now (search rules) (search rules), three_parts _ _ c.split-parts.result c.next.new.self c.next-2.new.self (YieldsList-from_slice_split _ (is ":") a.text.now c.split-parts.ensures.rest c.split-parts.ensures.done c.split-parts.ensures.closure (λ x b q k. search (rules, tests))) w.to w.ensures.steps w.from w.ensures'.steps c.next-3.new.self w.action w.ensures''.steps c.next-4.new.self w.ensures'''.steps) c.rule_tells.ensures

@@ -8,7 +8,13 @@ use Rattle.table_lines.proofs.LineLaws.{SoFar}
 use Rattle.table_lines.proofs.lines.read_lines.Given as goal
 
 abbrev pub invariant-loop-at : goal.invariant-loop-at
-invariant-loop-at l = (l.at ≤ length l.table) × (l.number ≤ l.at + 1) × (length l.text ≡ most_joined) × (length l.ends ≡ most_fields) × ((q : Question) → AskedWith q l.command l.user l.groups l.host l.minute l.last l.args → SoFar q l.table l.variables l.reader l.decision l.path l.at l.number)
+invariant-loop-at l = record {
+  inside : l.at ≤ length l.table;
+  few : l.number ≤ l.at + 1;
+  room : length l.text ≡ most_joined;
+  places : length l.ends ≡ most_fields;
+  so_far : (q : Question) → AskedWith q l.command l.user l.groups l.host l.minute l.last l.args → SoFar q l.table l.variables l.reader l.decision l.path l.at l.number;
+}
 
 abbrev pub decreases-loop-at : goal.decreases-loop-at
 decreases-loop-at l = length l.table - l.at

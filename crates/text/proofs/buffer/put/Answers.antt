@@ -5,8 +5,8 @@ use Rattle.text.proofs.Buffers.{laid_past, done_up, full_up}
 use Rattle.text.proofs.buffer.put.Goals as goal
 
 pub returns-then-n-out : goal.returns-then-n-out
-unfolding laid
-returns-then-n-out c = record { answer = done_up _ _ (omega arith); bytes = refl }
+returns-then-n-out c = record { answer = full_up _ _ (omega arith); bytes = sym (laid_past _ _ _ c.if-n-out.true) }
 
-pub returns-else-n-out : goal.returns-else-n-out
-returns-else-n-out c = record { answer = full_up _ _ (omega arith); bytes = sym (laid_past _ _ _ c.if-n-out.false) }
+pub returns : goal.returns
+unfolding laid
+returns c = record { answer = done_up _ _ (omega arith); bytes = refl }

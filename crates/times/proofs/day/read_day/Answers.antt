@@ -1,35 +1,37 @@
-use mathlib.Core.Path.{sym, ◌∙◌}
-use Prim.Native.Nat.{◌-◌}
+use mathlib.Core.Path.{◌≡◌, refl}
+use mathlib.Core.List.{map}
+use borrow.Author.Rules.{rules}
+use borrow.Author.Tests.{tests}
 use native.Mathlib.Omega.{arith}
-use Rattle.times.proofs.Days.{day_star, day_short, day_long, day_hit, day_on, day_end}
+use lib.ListN.{length, take}
+use Rattle.std.proofs.Math.Seq.{take-length}
+use Rattle.std.specs.Option.{option_map}
+use Rattle.std.specs.Slice.Iter.{iter_rest}
+use Rattle.std.proofs.lemmas.Grind.{common_steps}
+use Rattle.std.proofs.lemmas.Iterator.{YieldsList-from_slice}
+use Rattle.std.proofs.lemmas.Iterator.Search.{position_from_yields_List}
+use Rattle.text.specs.Case.{lower_of}
+use Rattle.times.specs.declared.day.Day.TheVariants.{Only}
+use Rattle.times.specs.Day.{day_names, shortens, day_among, day_of}
+use Rattle.times.proofs.Days.{among_is}
 use Rattle.times.proofs.day.read_day.Goals as goal
 
-pub returns-then-equal : goal.returns-then-equal
-returns-then-equal c = day_star _ (sym c.equal.ensures ∙ c.if-equal.true)
+none_names : (c : goal.After-from_residual) → map (λ b. map lower_of b.now) (iter_rest c.iter.result) ≡ day_names
+unfolding day_names lower_of
+none_names c = rw c.iter.ensures.rest refl
 
-pub returns-then-s-lt-LETTERS : goal.returns-then-s-lt-LETTERS
-returns-then-s-lt-LETTERS c = day_short _ (sym c.equal.ensures ∙ c.if-equal.false) c.if-s-lt-LETTERS.true
+pub returns-in_err-d : goal.returns-in_err-d
+unfolding day_of
+returns-in_err-d c =
+    let e : option_map Only c.position.result ≡ day_among 0 day_names c.args.s.now = rw (take-length c.args.s.now) at (among_is (λ b. map lower_of b.now) (take (length c.args.s.now) c.args.s.now) (iter_rest c.iter.result) (none_names c) _ (position_from_yields_List (λ b. shortens (take (length c.args.s.now) c.args.s.now) (map lower_of b.now)) c.position.new.self _ c.position.result c.position.ensures.ran (YieldsList-from_slice _ refl) (λ x b q k. search (rules, tests)))) in
+    grind (arith, common_steps)
 
-pub loop-d-init : goal.loop-d-init
-loop-d-init c = day_long _ (sym c.equal.ensures ∙ c.if-equal.false) c.if-s-lt-LETTERS.false
-
-pub is_short_for-requires : goal.is_short_for-requires
-is_short_for-requires c = omega arith
-
-pub overflow_cast-result : goal.overflow_cast-result
-overflow_cast-result c = omega arith
-
-pub returns-then-is_short_for : goal.returns-then-is_short_for
-returns-then-is_short_for c = day_hit _ _ c.loop-d-test.true (sym c.is_short_for.ensures ∙ c.if-is_short_for.true) ∙ c.loop-d.invariant
-
-pub overflow_add-d : goal.overflow_add-d
-overflow_add-d c = omega arith
-
-pub loop-d-smaller : goal.loop-d-smaller
-loop-d-smaller c = omega arith
-
-pub loop-d-preserved : goal.loop-d-preserved
-loop-d-preserved c = day_on _ _ c.loop-d-test.true (sym c.is_short_for.ensures ∙ c.if-is_short_for.false) ∙ c.loop-d.invariant
+names : (c : goal.In_ok-d) → map (λ b. map lower_of b.now) (iter_rest c.iter.result) ≡ day_names
+unfolding day_names lower_of
+names c = rw c.iter.ensures.rest refl
 
 pub returns : goal.returns
-returns c = day_end _ _ c.loop-d-test.false ∙ c.loop-d.invariant
+unfolding day_of
+returns c =
+    let e : option_map Only c.position.result ≡ day_among 0 day_names c.args.s.now = rw (take-length c.args.s.now) at (among_is (λ b. map lower_of b.now) (take (length c.args.s.now) c.args.s.now) (iter_rest c.iter.result) (names c) _ (position_from_yields_List (λ b. shortens (take (length c.args.s.now) c.args.s.now) (map lower_of b.now)) c.position.new.self _ c.position.result c.position.ensures.ran (YieldsList-from_slice _ refl) (λ x b q k. search (rules, tests)))) in
+    grind (arith, common_steps)

@@ -15,8 +15,8 @@ slice_bounds-inner-start c = let h = (head_is_law 40 c.args.rest.now (sym c.head
 pub slice_bounds-inner-count : goal.slice_bounds-inner-count
 slice_bounds-inner-count c = let h = (head_is_law 40 c.args.rest.now (sym c.head_is.ensures ∙ c.if-not-head_is.false)).0 in omega (arith, h)
 
-pub returns-then-head_is : goal.returns-then-head_is
-returns-then-head_is c = let r = c.args.rest.now in let w = c.word_length-w-2.result in let p = part_rest 1 r in let q = part_rest w (drop 1 r) in place_closed r w (sym c.head_is.ensures ∙ c.if-not-head_is.false) (rw p at c.word_length-w-2.ensures.0) (rw (p, q) at (sym c.head_is-2.ensures ∙ c.if-head_is.true))
+pub returns-then-not-head_is-2 : goal.returns-then-not-head_is-2
+returns-then-not-head_is-2 c = let r = c.args.rest.now in let w = c.word_length-w-2.result in let p = part_rest 1 r in let q = part_rest w (drop 1 r) in place_open r w (sym c.head_is.ensures ∙ c.if-not-head_is.false) (rw p at c.word_length-w-2.ensures.0) (rw (p, q) at (sym c.head_is-2.ensures ∙ c.if-not-head_is-2.true))
 
 pub returns : goal.returns
-returns c = let r = c.args.rest.now in let w = c.word_length-w-2.result in let p = part_rest 1 r in let q = part_rest w (drop 1 r) in place_open r w (sym c.head_is.ensures ∙ c.if-not-head_is.false) (rw p at c.word_length-w-2.ensures.0) (rw (p, q) at (sym c.head_is-2.ensures ∙ c.if-head_is.false))
+returns c = let r = c.args.rest.now in let w = c.word_length-w-2.result in let p = part_rest 1 r in let q = part_rest w (drop 1 r) in place_closed r w (sym c.head_is.ensures ∙ c.if-not-head_is.false) (rw p at c.word_length-w-2.ensures.0) (rw (p, q) at (sym c.head_is-2.ensures ∙ c.if-not-head_is-2.false))

@@ -1,11 +1,6 @@
 use mathlib.Core.Path.{sym, ◌∙◌}
-use native.Mathlib.Omega.{arith}
 use Rattle.variables.proofs.FieldLaws.{lays, lays_none, lays_kept, lays_removed}
-use Rattle.text.proofs.Buffers.{wrote_length}
 use Rattle.variables.proofs.field.put_byte.Goals as goal
-
-pub shape_of-out : goal.shape_of-out
-shape_of-out c = omega (arith, wrote_length c.put.ensures)
 
 pub returns-then-is_kept : goal.returns-then-is_kept
 returns-then-is_kept c = lays_kept c.args.quoting _ (sym c.is_kept.ensures ∙ c.if-is_kept.true) (lays _ c.requires.0 c.put.ensures c.count_of.ensures)

@@ -1,13 +1,9 @@
-use mathlib.Core.Path.{sym, ◌∙◌}
-use mathlib.Core.Bool.{true, false}
+use Rattle.std.proofs.lemmas.Result.{err_from_is_err_and}
 use Rattle.entry.proofs.AddLaws.{command_refused, command_added}
 use Rattle.entry.proofs.entry.Entry.add_command.Goals as goal
 
-pub returns-in-Fault : goal.returns-in-Fault
-returns-in-Fault c = λ t e h n. command_refused _ _ (sym c.in-Fault.is ∙ c.read_command.ensures)
+pub returns-in_err-matches : goal.returns-in_err-matches
+returns-in_err-matches c = λ t e h n. let p = err_from_is_err_and c.from_residual.result c.from_residual.ensures.1 in rw (p.1, p.2) (command_refused _ _ c.in_err-matches.ensures)
 
-pub returns-in-Matches : goal.returns-in-Matches
-returns-in-Matches c = λ t e h n. command_added _ true _ (sym c.in-Matches.is ∙ c.read_command.ensures) h n c.with_command.ensures
-
-pub returns-in-Misses : goal.returns-in-Misses
-returns-in-Misses c = λ t e h n. command_added _ false _ (sym c.in-Misses.is ∙ c.read_command.ensures) h n c.with_command-in-Misses.ensures
+pub returns : goal.returns
+returns c = λ t e h n. rw c.with_command.ensures (command_added _ _ c.in_ok-matches.ensures h n)

@@ -9,8 +9,8 @@ use Rattle.line.proofs.ScannerLaws.{goes_blanks}
 use borrow.Author.Rules.{rules}
 use Rattle.line.proofs.scanner.Scanner.past_blanks.Goals as goal
 
-pub part-counts-requires : goal.part-counts-requires
-part-counts-requires c = let p = c.requires in let a = c.args in let k : 0 < leading (in_run Blanks) (drop a.self.at a.line.now) = leading_some (in_run Blanks) _ _ p.1 p.3 in search rules
+pub part-requires : goal.part-requires
+part-requires c = let p = c.requires in let a = c.args in let k : 0 < leading (in_run Blanks) (drop a.self.at a.line.now) = leading_some (in_run Blanks) _ _ p.1 p.3 in search rules
 
 pub returns : goal.returns
-returns c = let p = c.requires in let a = c.args in let k : 0 < leading (in_run Blanks) (drop a.self.at a.line.now) = leading_some (in_run Blanks) _ _ p.1 p.3 in (omega arith, λ text. goes_blanks p.0 _ p.2 c.run_end-end.ensures.0 c.run_end-end.ensures.2 (c.part-counts.ensures text))
+returns c = let p = c.requires in let a = c.args in let k : 0 < leading (in_run Blanks) (drop a.self.at a.line.now) = leading_some (in_run Blanks) _ _ p.1 p.3 in (omega arith, λ text. goes_blanks p.0 _ p.2 c.run_end-end.ensures.0 c.run_end-end.ensures.2 (c.part.ensures text))

@@ -9,4 +9,4 @@ run_end-end-requires c = joins_room _ _ c.requires.1 c.requires.2
 
 pub returns : goal.returns
 unfolding in_run
-returns c = (omega arith, goes_join c.requires.0 _ c.requires.1 c.requires.2 c.run_end-end.ensures.0 c.run_end-end.ensures.2 c.mode_joined.ensures (rw c.byte_before.ensures at c.add_join-counts.ensures))
+returns c = (omega arith, goes_join c.requires.0 _ c.requires.1 c.requires.2 c.run_end-end.ensures.0 c.run_end-end.ensures.2 c.mode_joined.ensures (rw c.byte_before-before.ensures at c.add_join-counts.ensures))

@@ -1,12 +1,14 @@
-use mathlib.Core.Path.{refl}
+use Rattle.std.specs.Prelude.{Some}
+use Rattle.std.proofs.Common.{arith}
+use mathlib.Core.Path.{◌≡◌, refl}
+use mathlib.Core.List.{List}
+use Prim.Native.Nat.{ℕ}
+use Rattle.options.specs.Contract.{value_in, setting_in}
 use Rattle.reader.proofs.GlobalLaws.{sums_more, adds_as}
 use Rattle.reader.proofs.global.GlobalRead.add.Goals as goal
 
-pub returns-in-NotOption : goal.returns-in-NotOption
-returns-in-NotOption c = record { adds_to = λ ps ss l h. adds_as (rw c.in-NotOption.is at c.read_option.ensures) c.with_fault.ensures }
-
-pub returns-in-Faulty : goal.returns-in-Faulty
-returns-in-Faulty c = record { adds_to = λ ps ss l h. adds_as (rw c.in-Faulty.is at c.read_option.ensures) c.with_fault-in-Faulty.ensures }
-
-pub returns-in-Set : goal.returns-in-Set
-returns-in-Set c = record { adds_to = λ ps ss l h. adds_as (rw c.in-Set.is at c.read_option.ensures) (refl, sums_more c.args.text.now c.in-Set.setting l c.value_of-value.ensures h c.add.ensures c.add-in-Set.ensures c.add-in-Set-2.ensures) }
+pub returns : goal.returns
+returns c =
+    let t : List ℕ = c.args.text.now in
+    let z : c.in_ok-read_option.field-0 ≡ Some c.in_ok-setting.setting = grind arith in
+    record { adds_to = λ ps ss l h. adds_as (rw z at c.in_ok-read_option.ensures) (setting_in (value_in t) c.in_ok-setting.setting, refl, sums_more {r = record { options = c.add.result; failures = c.add-2.result; line = c.add-3.result }} t c.in_ok-setting.setting l c.value_of-value.ensures h c.add.ensures c.add-2.ensures c.add-3.ensures) }
