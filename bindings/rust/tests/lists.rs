@@ -52,9 +52,22 @@ fn causes_of_the_proved_code() {
         .collect();
     let ours: Vec<String> = causes().iter().map(|cause| format!("{cause:?}")).collect();
     assert_eq!(names, ours);
+    // The arms of the match: causes parted by bars, and the number of all of them.
+    let numbers = source.split_once("pub fn number(self)").expect("the numbers").1;
+    let arms = numbers.split_once("match self {").expect("the match").1;
+    let mut told = Vec::new();
+    for arm in arms.split_once('}').expect("its end").0.split(",\n") {
+        let Some((causes, number)) = arm.split_once(" => ") else {
+            continue;
+        };
+        for cause in causes.split('|') {
+            told.push((cause.trim().replace("Cause::", ""), number.to_string()));
+        }
+    }
+    assert_eq!(told.len(), ours.len());
     for cause in causes() {
-        let row = format!("{}, // {cause:?}\n", cause.refusal());
-        assert!(source.contains(&row), "{row}");
+        let row = (format!("{cause:?}"), cause.refusal().to_string());
+        assert!(told.contains(&row), "{row:?}");
     }
 }
 
