@@ -16,6 +16,13 @@ use streams::standard::Streams;
 // One byte more than the file may have, which is enough to see that it is too long.
 pub const FILE: usize = WholeText::BYTES + 1;
 
+// Room for the file.
+pub fn file_buffer() -> [u8; FILE]
+    ensures { table_limit + 1 ≡ length result }
+{
+    zeros::<FILE>()
+}
+
 // The longest name of a file.
 pub const NAME: usize = 4096;
 

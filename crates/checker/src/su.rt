@@ -6,8 +6,8 @@ ghost use Rattle.suauth.specs.Contract.{asking};
 ghost use Rattle.su_console.specs.Explained.{su_explained};
 ghost use Rattle.checker.specs.Contract.{Reports};
 
-use super::file::{FILE, NAME, load_named};
-use super::report::{REPORT, print_filled};
+use super::file::{NAME, file_buffer, load_named};
+use super::report::{print_filled, report_buffer};
 use std::fs::File;
 use std::io::Stderr;
 use std::rt::{Env, Files};
@@ -22,7 +22,7 @@ use suauth::su_answer;
 fn print_report(errors: Stderr, output: Output, name: &[u8], file: &[u8]) -> Output
     ensures { Reports (su_explained name.now file.now (answer_of file.now (asking (bytes "root") (bytes "root") []))) output result }
 {
-    let mut out = zeros::<REPORT>();
+    let mut out = report_buffer();
     let answer = su_answer(file, b"root", b"root", b"");
     let filled = explain_su(name, file, answer, &mut out);
     print_filled(errors, output, filled, &out)
@@ -30,7 +30,7 @@ fn print_report(errors: Stderr, output: Output, name: &[u8], file: &[u8]) -> Out
 
 // Checks the file of this name.
 fn check_named<R: Files<File = File>>(rt: &R, streams: Streams, name: &[u8]) {
-    let mut file = zeros::<FILE>();
+    let mut file = file_buffer();
     let Some(n) = load_named(rt, streams, name, &mut file) else {
         return;
     };

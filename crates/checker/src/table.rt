@@ -4,8 +4,8 @@ ghost use Rattle.console.specs.QuestionLine.{line_limit};
 ghost use Rattle.explain.specs.Explained.{explained};
 ghost use Rattle.checker.specs.Contract.{Reports};
 
-use super::file::{FILE, NAME, load_named};
-use super::report::{REPORT, print_filled};
+use super::file::{NAME, file_buffer, load_named};
+use super::report::{print_filled, report_buffer};
 use answer::Answer;
 use console::question_line::QuestionLine;
 use console::respond::answer_line;
@@ -23,6 +23,13 @@ use streams::standard_output::Output;
 // One byte more than a question line may have.
 const QUESTION: usize = QuestionLine::BYTES + 1;
 
+// Room for a question line.
+fn question_buffer() -> [u8; QUESTION]
+    ensures { line_limit + 1 ≡ length result }
+{
+    zeros::<QUESTION>()
+}
+
 // Hands on what was found in a table that was asked this question.
 fn print_report(
     errors: Stderr,
@@ -34,7 +41,7 @@ fn print_report(
 ) -> Output
     ensures { Reports (explained name.now question.now table.now answer) output result }
 {
-    let mut out = zeros::<REPORT>();
+    let mut out = report_buffer();
     let filled = explain(name, question, table, answer, &mut out);
     print_filled(errors, output, filled, &out)
 }
@@ -66,7 +73,7 @@ fn ask(streams: Streams, name: &[u8], table: &[u8], line: &[u8]) {
 
 // Asks the table of this name the question.
 fn ask_named<R: Files<File = File>>(rt: &R, streams: Streams, name: &[u8], line: &[u8]) {
-    let mut table = zeros::<FILE>();
+    let mut table = file_buffer();
     let Some(n) = load_named(rt, streams, name, &mut table) else {
         return;
     };
@@ -89,7 +96,7 @@ pub fn check<R: Env + Files<File = File>>(rt: &R, streams: Streams, i: usize) {
 
 // The same, with the question in the argument behind it.
 pub fn check_with<R: Env + Files<File = File>>(rt: &R, streams: Streams, i: usize) {
-    let mut line = zeros::<QUESTION>();
+    let mut line = question_buffer();
     if i < usize::MAX {
         let n = argument(rt, i + 1, &mut line);
         ask_at(rt, streams, i, &line[..n]);

@@ -1,5 +1,5 @@
 -- What is written into lent bytes is the record that a log gets, or nothing. Assumes nothing.
-use Rattle.std.specs.Prelude.{Err, Ok, Result}
+use Rattle.std.specs.Prelude.{Err, Ok, Result, is_ok}
 use mathlib.Core.Path.{◌≡◌, refl, sym, ◌∙◌}
 use mathlib.Core.Bool.{Bool, true, false, cond}
 use mathlib.Core.List.{List, [], ◌++◌, append-nil}
@@ -12,13 +12,13 @@ use Rattle.text.specs.Buffer.{laid}
 use Rattle.text.proofs.Buffers.{laid_is}
 use Rattle.question.specs.Question.{week_minutes}
 use Rattle.record.specs.declared.Fields.{Fields}
-use Rattle.record.specs.declared.RecordFault.TheVariants.{UnknownNumber, BadMinute, WrongLength}
+use Rattle.record.specs.declared.RecordFault.TheVariants.{OtherVersion, UnknownNumber, BadMinute, WrongLength}
 use Rattle.record.specs.declared.Unrecorded.{Unrecorded}
-use Rattle.record.specs.declared.Unrecorded.TheVariants.{LongLine}
+use Rattle.record.specs.declared.Unrecorded.TheVariants.{Writer, LongLine}
 use Rattle.record.specs.Layout.{record_length, packed}
 use Rattle.record.specs.Stored.{known, stored_of}
 use Rattle.record.specs.Write.{written_of}
-use Rattle.record.specs.Decision.{line_limit, by_writer, recorded_of, bytes_recorded, record_bytes}
+use Rattle.record.specs.Decision.{line_limit, by_writer, recorded_of, bytes_recorded, record_bytes, recorded_number}
 use Rattle.record.specs.Contract.{record_within, bytes_written}
 use Rattle.record.proofs.RoundTrip.{packed_length}
 
@@ -44,7 +44,7 @@ module _ (f : Fields) (old : List ℕ) where
   placed false false n m e = refl
 
   counted : (line eight number minute : Bool) → bytes_written (answered line eight number minute) ≡ length (cond eight (bytes_recorded (answered line true number minute) [] f) [])
-  unfolding bytes_recorded
+  unfolding bytes_written recorded_number bytes_recorded
   counted true true true true = sym (packed_length (stored_of f))
   counted true true true false = refl
   counted true true false m = refl
@@ -61,6 +61,16 @@ module _ (f : Fields) (old : List ℕ) where
   pub recorded_count : bytes_written (recorded_of (length old) f) ≡ length (record_within (length old) (record_bytes f))
   unfolding recorded_of written_of record_bytes record_within
   recorded_count = counted (ltb f.line line_limit) (eqb (length old) record_length) (known f.number) (ltb f.minute.0 week_minutes)
+
+-- eight bytes are written where there is no refusal, and none else
+pub bytes_by : (r : Result Unit Unrecorded) → bytes_written r ≡ cond (is_ok r) record_length 0
+unfolding bytes_written recorded_number
+bytes_by (Ok tt) = refl
+bytes_by (Err (Writer OtherVersion)) = refl
+bytes_by (Err (Writer UnknownNumber)) = refl
+bytes_by (Err (Writer BadMinute)) = refl
+bytes_by (Err (Writer WrongLength)) = refl
+bytes_by (Err LongLine) = refl
 
 -- a log gets eight bytes at most
 pub bytes_most : (f : Fields) → length (record_bytes f) ≤ record_length

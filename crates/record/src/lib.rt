@@ -84,6 +84,7 @@ impl From<RecordFault> for Unrecorded {
 }
 
 // How many bytes were written: all eight, or none.
+#[tactic(auto, using(crate::proofs::AppendLaws::bytes_by))]
 pub fn bytes_recorded(recorded: Result<(), Unrecorded>) -> usize
     ensures { result ≡ bytes_written recorded }
 {

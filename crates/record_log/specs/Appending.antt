@@ -1,13 +1,17 @@
 -- What the contracts of a log's file say.
-use Rattle.std.specs.Prelude.{◌≡◌, Bool, true, false, cond, List, ℕ, eqb, Option, Some, None, is_some, length, take}
+use Rattle.std.specs.Prelude.{◌≡◌, Bool, true, false, cond, List, ℕ, eqb, min, Option, Some, None, is_some, length, take}
 use Rattle.streams.specs.Contract.{counted_on}
 use Rattle.record_log.specs.declared.appended.Appended.{Appended}
 use Rattle.record_log.specs.declared.file.Log.{Log}
 
--- a write of so many bytes that told this took all of them; one that told none failed
-abbrev pub took_all : Option ℕ → (count : ℕ) → Bool
-took_all (Some n) count = eqb n count
-took_all None count = false
+-- what a write told, as a number of at most so many bytes; one that told none failed
+abbrev pub clamp_len : Option ℕ → ℕ → ℕ
+clamp_len (Some n) most = min n most
+clamp_len None most = 0
+
+-- a write of so many bytes that told this took all of them
+unfoldable pub took_all : Option ℕ → (count : ℕ) → Bool
+took_all told count = eqb (clamp_len told count) count
 
 -- a part was handed on, and its write told this: the bytes are counted, and all is whole where it was and the write took all
 pub record AfterWrite (told : Option ℕ) (part : List ℕ) (before after : Appended) : Type 0 where

@@ -1,5 +1,5 @@
 -- What the contracts of the functions that look at a file say.
-use Rattle.std.specs.Prelude.{◌≡◌, true, List, ◌++◌, ℕ, ◌%◌, eqb, length}
+use Rattle.std.specs.Prelude.{◌≡◌, ◌×◌, true, List, ◌++◌, ℕ, ◌%◌, eqb, Option, Some, None, length, take}
 use Rattle.record.specs.Layout.{record_length}
 use Rattle.record_log.specs.Recognised.{seen_in}
 use Rattle.record_log.specs.declared.opening.Looking.{Looking}
@@ -18,3 +18,8 @@ pub record Looked (bytes : List ℕ) (r : Looking) : Type 0 where
 pub record LooksOn (read : List ℕ) (room : ℕ) (before after : Looking) : Type 0 where
   pub looked : (bytes : List ℕ) → Looked bytes before → Looked (bytes ++ read) after
   pub going : after.going ≡ eqb (length read) room
+
+-- what a read told was looked at: so many bytes of the block; there is nothing behind one that failed
+abbrev pub LooksAt : Option ℕ → (block : List ℕ) → Looking → Option Looking → Type 0
+LooksAt None block before r = r ≡ None
+LooksAt (Some n) block before r = (after : Looking) × (r ≡ Some after) × LooksOn (take n block) (length block) before after

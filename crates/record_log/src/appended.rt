@@ -1,7 +1,7 @@
 // What was handed to a log's file.
 ghost use Rattle.std.specs.Prelude.{◌≡◌, true, length, take};
 ghost use Rattle.std.specs.Io.{WritesAtMost};
-ghost use Rattle.record_log.specs.Appending.{took_all, AfterWrite, HandsOn, AppendsFirst};
+ghost use Rattle.record_log.specs.Appending.{clamp_len, took_all, AfterWrite, HandsOn, AppendsFirst};
 
 use std::fs::File;
 use std::io;
@@ -20,11 +20,22 @@ pub struct Appended {
     whole: bool,
 }
 
+// What a write told, as a number of the part's bytes: 0 where it failed.
+fn count(told: Option<usize>, part: &[u8]) -> usize
+    ensures { result ≡ clamp_len told (length part.now) }
+{
+    match told {
+        Some(n) => n.min(part.len()),
+        None => 0,
+    }
+}
+
 // Whether a write that told this took the whole part.
+#[tactic(auto, unfolding(crate::specs::Appending::took_all))]
 fn took_all(told: Option<usize>, part: &[u8]) -> bool
     ensures { result ≡ took_all told (length part.now) }
 {
-    told == Some(part.len())
+    count(told, part) == part.len()
 }
 
 // What a write told: how many bytes it took, or none where it failed, which is told.

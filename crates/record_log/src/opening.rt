@@ -2,7 +2,8 @@
 ghost use Rattle.std.specs.Prelude.{ℕ, ◌%◌, ◌≡◌, ◌≤◌, true, List, [], length, take, IfSome};
 ghost use Rattle.record.specs.Layout.{record_length};
 ghost use Rattle.record_log.specs.Recognised.{seen_in, takes_records};
-ghost use Rattle.record_log.specs.Contract.{Looked, LooksOn};
+ghost use Rattle.streams.specs.Contract.{LoadedIn};
+ghost use Rattle.record_log.specs.Contract.{Looked, LooksOn, LooksAt};
 
 use super::file::Log;
 use super::recognise::{Kind, Seen};
@@ -53,6 +54,16 @@ impl Looking {
     }
 }
 
+// What a read told is looked at; none where it failed, which was told.
+fn look_at(loaded: Option<usize>, block: &[u8], looking: Looking) -> Option<Looking>
+    requires read { LoadedIn block.now loaded }
+    requires whole { length block.now % record_length ≡ 0 }
+    requires going { looking.going ≡ true }
+    ensures { LooksAt loaded block.now looking result }
+{
+    Some(looking.on(block, loaded?))
+}
+
 // What is seen in the bytes of a file; none where a read failed, which was told. Nothing says that the file ends, so the
 // turns are counted up to a number that no run comes to.
 fn look_through(input: Input<'_>, block: &mut [u8]) -> Option<Seen>
@@ -64,8 +75,8 @@ fn look_through(input: Input<'_>, block: &mut [u8]) -> Option<Seen>
         if !looking.going {
             break;
         }
-        let n = read_all(input, block)?;
-        looking = looking.on(block, n);
+        let loaded = read_all(input, block);
+        looking = look_at(loaded, block, looking)?;
     }
     Some(looking.seen)
 }

@@ -1,5 +1,5 @@
 // Answers with a log, and what is printed of one.
-use checker::file::{FILE, NAME, load_argument};
+use checker::file::{NAME, file_buffer, load_argument};
 use log_text::show::show;
 use record_log::file::Log;
 use record_log::opening::open;
@@ -45,7 +45,7 @@ fn answer_logged<R: Env + Files<File = File>>(
 // Answers the questions of standard input, with the log and the table that these arguments name. The table is read
 // before the log is opened, so that a wrong table leaves no log behind.
 pub fn answer<R: Env + Files<File = File>>(rt: &R, streams: Streams, i: usize, j: usize) {
-    let mut bytes = zeros::<FILE>();
+    let mut bytes = file_buffer();
     let read = load_argument(rt, streams, j, b"the name of the table", &mut bytes);
     let loaded = read.loaded;
     let identity = read.identity;

@@ -3,7 +3,7 @@
 
 mod logging; // answers with a log, and what is printed of one
 
-use checker::file::{FILE, load};
+use checker::file::{file_buffer, load};
 use checker::{su, table};
 use command_line::request::{Arguments, Misuse, Request};
 use command_line::uses::requested;
@@ -13,7 +13,6 @@ use responder::lines::answer_lines;
 use responder::source::Source;
 use std::fs::File;
 use std::rt::{Env, Files};
-use streams::buffers::zeros;
 use streams::standard::Streams;
 use streams::{message, standard_output};
 
@@ -26,7 +25,7 @@ fn answer<R: Env + Files<File = File>>(
     i: usize,
     what: &[u8],
 ) {
-    let mut bytes = zeros::<FILE>();
+    let mut bytes = file_buffer();
     let Some(n) = load(rt, streams, i, what, &mut bytes) else {
         return;
     };

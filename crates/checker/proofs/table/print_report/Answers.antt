@@ -8,4 +8,4 @@ pub print_filled-requires : goal.print_filled-requires
 print_filled-requires c = λ n e. let w = c.explain-filled.ensures in omega (arith, wrote_length w, (wrote_done w e).0)
 
 pub returns : goal.returns
-returns c = reported _ _ _ _ _ _ c.explain-filled.ensures (sym c.zeros-out.ensures) c.print_filled.ensures
+returns c = reported _ _ _ _ _ _ c.explain-filled.ensures (sym c.report_buffer-out.ensures) c.print_filled.ensures

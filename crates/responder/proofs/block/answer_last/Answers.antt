@@ -6,11 +6,11 @@ use lib.Seq.{length-take-le}
 use Rattle.responder.proofs.SeriesLaws.{ends_none, ends_put}
 use Rattle.responder.proofs.block.answer_last.Goals as goal
 
-pub returns-then-progress-eq0 : goal.returns-then-progress-eq0
-returns-then-progress-eq0 c = let a = c.args in record { within = (omega arith, omega arith, omega arith); ends = ends_none _ _ (ap (λ (m : ℕ). take m a.line.now) c.if-progress-eq0.true) }
+pub returns-then-no_line : goal.returns-then-no_line
+returns-then-no_line c = let a = c.args in record { within = (omega arith, omega arith, omega arith); ends = ends_none _ _ (ap (λ (m : ℕ). take m a.line.now) c.if-no_line.true) }
 
 pub returns : goal.returns
 returns c = let a = c.args in
     let z = length-take-le a.progress.line a.line.now c.requires.0 in
     let e = c.add_answer.ensures in
-    record { within = e.within; ends = ends_put _ _ (λ n. c.if-progress-eq0.false (sym z ∙ n)) e.put }
+    record { within = e.within; ends = ends_put _ _ (λ n. c.if-no_line.false (sym z ∙ n)) e.put }
