@@ -1,9 +1,13 @@
--- What the contracts of the functions say: numbers held at a limit, where the pieces of a line are, and what `respond` leaves in the buffer.
+-- What the contracts of the functions say: numbers held at a limit, where the pieces of a line are, what stands beside an answer, and what `respond` leaves in the buffer.
 use Rattle.question.specs.declared.Age.{Age}
 use Rattle.std.specs.Prelude.{◌≡◌, ℤ, pos, negsuc, cond, List, [], ℕ, ◌+◌, ◌-◌, ◌≤◌, ◌<◌, min, leb, ltb, length, take, drop, None, Option, Some}
 use Rattle.text.specs.Buffer.{laid}
 use Rattle.text.specs.Lists.{split_at}
 use Rattle.text.specs.Contract.{lead}
+use Rattle.line.specs.Line.{table_limit}
+use Rattle.answer.specs.declared.Granted.{Granted}
+use Rattle.answer.specs.declared.Answer.{Answer}
+use Rattle.answer.specs.declared.Answer.TheVariants.{Permit, Password, NoEntry, StoppedByNargs, StoppedByArgument, StoppedByPath, MalformedQuestion, LongTable, RefusedByte, CutShort, RefusedLine, SmallBuffer}
 use Rattle.answer.specs.Answer.{result}
 use Rattle.answer.specs.Meaning.{Asked}
 use Rattle.console.specs.QuestionLine.{line_limit, most_age, asked_in}
@@ -70,6 +74,35 @@ pub record Reads (line : List ℕ) (asked : Option Asked) (scratch : List ℕ) (
   pub size : length scratch ≡ line_limit
   pub asks : asked_by line scratch r ≡ asked
   pub placed : Placed line r
+
+-- what a permit grants, and the line or the place beside any other answer
+abbrev pub grant_beside : Answer → Option Granted
+grant_beside (Permit g) = Some g
+grant_beside (Password g) = Some g
+grant_beside NoEntry = None
+grant_beside (StoppedByNargs l) = None
+grant_beside (StoppedByArgument l) = None
+grant_beside (StoppedByPath l) = None
+grant_beside MalformedQuestion = None
+grant_beside LongTable = None
+grant_beside (RefusedByte p) = None
+grant_beside (CutShort p) = None
+grant_beside (RefusedLine c p) = None
+grant_beside SmallBuffer = None
+
+abbrev pub number_beside : Answer → ℕ
+number_beside (Permit g) = 0
+number_beside (Password g) = 0
+number_beside NoEntry = 0
+number_beside (StoppedByNargs l) = l
+number_beside (StoppedByArgument l) = l
+number_beside (StoppedByPath l) = l
+number_beside MalformedQuestion = 0
+number_beside LongTable = table_limit
+number_beside (RefusedByte p) = p
+number_beside (CutShort p) = p
+number_beside (RefusedLine c p) = p
+number_beside SmallBuffer = 0
 
 -- the least bytes of the lent buffer; every response fits into it (law `response_length`)
 abbrev pub least_room : ℕ

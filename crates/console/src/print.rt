@@ -1,12 +1,12 @@
 // The printed line of an answer, with its newline.
-ghost use Rattle.std.specs.Prelude.{◌≡◌, ◌++◌};
-ghost use Rattle.text.specs.Bytes.{bytes};
+ghost use Rattle.std.specs.Prelude.{◌≡◌};
 ghost use Rattle.text.specs.Contract.{Wrote};
 ghost use Rattle.answer.specs.Answer.{string_in, grant_in, told_of};
 ghost use Rattle.output.specs.Contract.{WroteAfter};
-ghost use Rattle.output.specs.Decimal.{decimal};
-ghost use Rattle.console.specs.Printed.{id_text, grant_text, refusal_text, printed};
+ghost use Rattle.console.specs.Printed.{id_text, grant_text, stop_word, stop_text, refusal_text, printed};
+ghost use Rattle.console.specs.Contract.{grant_beside, number_beside};
 
+use answer::number::number_of;
 use answer::{Answer, Granted};
 use line::whole::WholeText;
 use output::behind::{then_all, then_decimal};
@@ -67,12 +67,24 @@ fn put_grant(word: &[u8], grant: Granted, buffer: &[u8], out: &mut [u8]) -> Opti
     then_all(egid, b"\n", out)
 }
 
-// The line of a decision that stops, and why.
-fn put_stop(line: usize, why: &[u8], out: &mut [u8]) -> Option<usize>
-    ensures { Wrote out.old out.new 0 (bytes "stopped " ++ decimal line ++ why.now) result }
+// Why the deciding entry stops, by the answer's number.
+fn then_stop_word(filled: Option<usize>, number: u8, out: &mut [u8]) -> Option<usize>
+    ensures { WroteAfter filled out.old out.new (stop_word number) result }
+{
+    match number {
+        3 => then_all(filled, b" nargs\n", out),
+        4 => then_all(filled, b" arg\n", out),
+        _ => then_all(filled, b" path\n", out),
+    }
+}
+
+// The line of a decision that stops.
+#[tactic(auto, unfolding(crate::specs::Printed::stop_text))]
+fn put_stop(number: u8, line: usize, out: &mut [u8]) -> Option<usize>
+    ensures { Wrote out.old out.new 0 (stop_text number line) result }
 {
     let stopped = then_decimal(put_all(out, 0, b"stopped "), line, out);
-    then_all(stopped, why, out)
+    then_stop_word(stopped, number, out)
 }
 
 // The line of a refusal.
@@ -86,23 +98,43 @@ pub fn put_refusal(number: u8, place: usize, out: &mut [u8]) -> Option<usize>
     then_all(placed, b"\n", out)
 }
 
-// The line of an answer at the buffer's beginning. None: it does not fit.
-#[tactic(auto, unfolding(answer::specs::Answer::told_of, crate::specs::Printed::printed, crate::specs::Printed::stop_text))]
+// What a permit grants; any other answer grants nothing.
+fn grant_of(answer: Answer) -> Option<Granted>
+    ensures { result ≡ grant_beside answer }
+{
+    match answer {
+        Answer::Permit(grant) | Answer::Password(grant) => Some(grant),
+        _ => None,
+    }
+}
+
+// The line or the place beside any other answer.
+fn place_of(answer: Answer) -> usize
+    ensures { result ≡ number_beside answer }
+{
+    match answer {
+        Answer::StoppedByNargs(line)
+        | Answer::StoppedByArgument(line)
+        | Answer::StoppedByPath(line) => line,
+        Answer::LongTable => WholeText::BYTES,
+        Answer::RefusedByte(place) | Answer::CutShort(place) => place,
+        Answer::RefusedLine(_, place) => place,
+        _ => 0,
+    }
+}
+
+// The line of an answer at the buffer's beginning: its number chooses the word and what stands beside it. None: it does not fit.
+#[tactic(auto, using(crate::proofs::PrintLaws::permit_text, crate::proofs::PrintLaws::password_text, crate::proofs::PrintLaws::none_text, crate::proofs::PrintLaws::stopped_text, crate::proofs::PrintLaws::refused_text, crate::proofs::PrintLaws::without_grant, record::proofs::DecisionLaws::numbers))]
 pub fn put_answer(answer: Answer, buffer: &[u8], out: &mut [u8]) -> Option<usize>
     ensures { Wrote out.old out.new 0 (printed (told_of answer buffer.now)) result }
 {
-    match answer {
-        Answer::Permit(grant) => put_grant(b"permit ", grant, buffer, out),
-        Answer::Password(grant) => put_grant(b"password ", grant, buffer, out),
-        Answer::NoEntry => put_all(out, 0, b"none\n"),
-        Answer::StoppedByNargs(line) => put_stop(line, b" nargs\n", out),
-        Answer::StoppedByArgument(line) => put_stop(line, b" arg\n", out),
-        Answer::StoppedByPath(line) => put_stop(line, b" path\n", out),
-        Answer::MalformedQuestion => put_refusal(10, 0, out),
-        Answer::LongTable => put_refusal(11, WholeText::BYTES, out),
-        Answer::RefusedByte(place) => put_refusal(12, place, out),
-        Answer::CutShort(place) => put_refusal(13, place, out),
-        Answer::RefusedLine(cause, place) => put_refusal(cause.number(), place, out),
-        Answer::SmallBuffer => put_refusal(17, 0, out),
+    let number = number_of(answer);
+    match number {
+        0 => put_grant(b"permit ", grant_of(answer)?, buffer, out),
+        1 => put_grant(b"password ", grant_of(answer)?, buffer, out),
+        2 => put_all(out, 0, b"none\n"),
+        3..=5 => put_stop(number, place_of(answer), out),
+        10..=18 => put_refusal(number, place_of(answer), out),
+        _ => None,
     }
 }
