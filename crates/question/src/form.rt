@@ -9,6 +9,7 @@ ghost use Rattle.question.specs.Contract.{when_strings, most_of, good_of, is_que
 use super::strings::Strings;
 use super::{Argument, Arguments, Command, Groups, Host, User, WeekMinute};
 use text::alphabet::{Alphabet, all_in};
+use text::split::Split;
 
 // Whether a component of a command is neither empty nor `.` nor `..`.
 #[tactic(auto, unfolding(crate::specs::Question::good_component))]
@@ -22,7 +23,7 @@ fn component_is_good(p: &[u8]) -> bool
 fn components_are_good(s: &[u8]) -> bool
     ensures { result ≡ list_all good_component (slice_split (is "/") s.now) }
 {
-    s.split(|b| *b == b'/').all(|p| component_is_good(p))
+    Split::new(s, b'/').all(|p| component_is_good(p))
 }
 
 // Whether s is a good command.
