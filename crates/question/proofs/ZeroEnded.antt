@@ -1,19 +1,23 @@
 -- The laws of zero-ended strings.
 use Rattle.std.specs.Prelude.{None, Option, Some}
-use Rattle.std.specs.List.{filter}
-use mathlib.Core.Path.{◌≡◌, refl}
-use mathlib.Core.Bool.{Bool, true, false, cond}
+use Rattle.std.specs.List.{filter, list_all, enumerate_from}
+use Rattle.std.proofs.lemmas.List.Sums.{length-filter, count_by-le-length}
+use mathlib.Core.Path.{◌≡◌, refl, sym, ◌∙◌}
+use mathlib.Core.Bool.{Bool, true, false, cond, ◌&&◌}
 use mathlib.Core.List.{List, [], ◌∷◌}
 use Prim.Native.Nat.{ℕ, suc, ◌+◌, ◌-◌, ◌≤◌, ◌<◌}
+use native.Mathlib.Nat.{add-zero, zero-add}
 use native.Mathlib.Omega.{arith}
 use native.Mathlib.Numerals.{add-one, unary_clauses}
-use borrow.Author.Tests.{ne_eqb, ltb-true, ltb-false}
-use lib.Dec.{eqb, ltb}
+use borrow.Author.Tests.{ne_eqb, le-leb, lt-leb, ltb-true, ltb-false}
+use lib.Dec.{eqb, leb, ltb}
 use lib.ListN.{length, take, drop, get_or, drop_of_length-le}
 use Rattle.text.specs.Lists.{with_byte}
 use Rattle.text.specs.Contract.{lead, find_byte}
+use Rattle.text.proofs.Laws.{both_no}
 use Rattle.text.proofs.Leads.{by_lead, by_none, lead_past, from_place}
 use Rattle.question.specs.Strings.{in_front, strings_of}
+use Rattle.question.specs.Question.{good_strings}
 use Rattle.question.specs.Contract.{strings_in}
 
 -- the first string, and the strings behind its zero
@@ -60,6 +64,10 @@ zeros_are (b ∷ s) = go (eqb b 0) (strings_in s) (zeros_are s)
     go false [] e = e
     go false (p ∷ ps) e = e
 
+-- there are no more strings than bytes
+pub strings_most : (s : List ℕ) → length (strings_in s) ≤ length s
+strings_most s = rw (zeros_are s, length-filter) (count_by-le-length (λ b. eqb b 0) s)
+
 -- a byte is in a string
 some : (x : ℕ) (s : List ℕ) → strings_of (x ∷ s) ≡ Some [] → ⊥
 unfolding strings_of
@@ -87,6 +95,27 @@ strings_are (b ∷ (x ∷ s)) = simp unary_clauses (go (eqb b 0) (eqb (get_or (x
     go true true o ps e n = rw e
     go false true o [] e n = absurd (n e)
     go false true o (p ∷ ps) e n = rw e
+
+-- whether each string is good and its number, counted from k, is below `most`: whether there are so few, each of them good
+numbered : (most k : ℕ) (f : List ℕ → Bool) (ps : List (List ℕ)) → k ≤ most → list_all (λ p. ltb p.0 most && f p.1) (enumerate_from k ps) ≡ leb (k + length ps) most && list_all f ps
+numbered most k f [] h = rw (add-zero, le-leb k most h)
+numbered most k f (p ∷ ps) h = go (ltb k most) (f p) refl (λ l. numbered most (k + 1) f ps l)
+  where
+    rest : Bool
+    rest = list_all (λ p. ltb p.0 most && f p.1) (enumerate_from (k + 1) ps)
+
+    go : (t u : Bool) → ltb k most ≡ t → (k + 1 ≤ most → rest ≡ leb (k + 1 + length ps) most && list_all f ps) → t && u && rest ≡ leb (k + suc (length ps)) most && (u && list_all f ps)
+    go true true e g =
+        let l = ltb-true k most e in
+        let z : k + suc (length ps) ≡ k + 1 + length ps = omega arith in
+        rw z (g (omega arith))
+    go true false e g = sym (both_no (leb (k + suc (length ps)) most))
+    go false u e g = let l = ltb-false k most e in rw (lt-leb (k + suc (length ps)) most (omega arith))
+
+-- the same of all strings
+pub good_numbered : (most : ℕ) (f : List ℕ → Bool) (ps : List (List ℕ)) → list_all (λ p. ltb p.0 most && f p.1) (enumerate_from 0 ps) ≡ good_strings most f ps
+unfolding good_strings
+good_numbered most f ps = numbered most 0 f ps (omega arith) ∙ rw zero-add
 
 -- the strings of a good list are the strings of it
 pub strings_in_law : (s : List ℕ) (ps : List (List ℕ)) → strings_of s ≡ Some ps → strings_in s ≡ ps

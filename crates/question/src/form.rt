@@ -6,9 +6,10 @@ ghost use Rattle.text.specs.Bytes.{is};
 ghost use Rattle.question.specs.Question.{strings_of, good_component, good_command, good_name, good_argument, good_strings, question_of};
 ghost use Rattle.question.specs.Contract.{when_strings, most_of, good_of, is_question};
 
-use super::strings::{Strings, string_count};
+use super::strings::Strings;
 use super::{Argument, Arguments, Command, Groups, Host, User, WeekMinute};
 use text::alphabet::{Alphabet, all_in};
+use text::split::Split;
 
 // Whether a component of a command is neither empty nor `.` nor `..`.
 #[tactic(auto, unfolding(crate::specs::Question::good_component))]
@@ -22,7 +23,7 @@ fn component_is_good(p: &[u8]) -> bool
 fn components_are_good(s: &[u8]) -> bool
     ensures { result ≡ list_all good_component (slice_split (is "/") s.now) }
 {
-    s.split(|b| *b == b'/').all(|p| component_is_good(p))
+    Split::new(s, b'/').all(|p| component_is_good(p))
 }
 
 // Whether s is a good command.
@@ -79,14 +80,16 @@ fn is_good(s: &[u8], listed: Listed) -> bool
     }
 }
 
-// Whether the list is good groups, or good arguments, each ended by a zero.
-#[tactic(auto, using(crate::proofs::ZeroEnded::strings_are), unfolding(crate::specs::Question::good_strings))]
+// Whether the list is good groups, or good arguments, each ended by a zero; what stands behind one too many is not read.
+#[tactic(auto, using(crate::proofs::ZeroEnded::strings_are, crate::proofs::ZeroEnded::strings_most))]
 pub fn strings_are_good(list: &[u8], listed: Listed) -> bool
     ensures { result ≡ when_strings (good_strings (most_of listed) (good_of listed)) (strings_of list.now) }
 {
+    let most = most_of(listed);
     list.last().is_none_or(|b| *b == 0)
-        && string_count(list) <= most_of(listed)
-        && Strings(list).all(|s| is_good(s, listed))
+        && Strings(list)
+            .enumerate()
+            .all(|(i, s)| i < most && is_good(s, listed))
 }
 
 // Whether the bytes ask a question, whatever the age is.

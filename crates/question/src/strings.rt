@@ -24,9 +24,10 @@ impl<'a> Iterator for Strings<'a> {
     }
 }
 
-// How many strings the list has: each has one zero.
+// How many strings the list has.
+#[tactic(auto, using(crate::proofs::ZeroEnded::strings_most))]
 pub fn string_count(list: &[u8]) -> usize
     ensures { result ≡ length (strings_in list.now) }
 {
-    list.iter().filter(|b| **b == 0).count()
+    Strings(list).count()
 }

@@ -6,5 +6,6 @@ pub mod Numbers
 pub mod Slices
 pub mod Lists
 pub mod Splits
+pub mod FirstPart
 pub mod Cases
 pub mod Contains

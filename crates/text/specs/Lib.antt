@@ -7,5 +7,6 @@ pub mod Quote
 pub mod Slice
 pub mod Number
 pub mod Parts
+pub mod Split
 pub mod Contract
 pub mod Buffer

@@ -8,3 +8,4 @@ pub mod class; // the class of a byte, and tests on one byte
 pub mod number; // decimal numbers
 pub mod quote; // quotes
 pub mod slice; // comparing and searching slices
+pub mod split; // the parts between the bytes of one kind
