@@ -18,9 +18,9 @@ use Rattle.fault.specs.declared.Cause.TheVariants.{FieldLength, MissingPart, Opt
 use Rattle.line.specs.Contract.{fields_in}
 use Rattle.line.proofs.AccessLaws.{fields_count, field_part}
 use Rattle.variables.specs.Scope.{Scope}
-use Rattle.variables.specs.Substitute.{field_text, field_as}
+use Rattle.variables.specs.Substitute.{limited, field_text, field_as}
 use Rattle.variables.specs.Contract.{literal, verbatim, Substitutes}
-use Rattle.variables.proofs.TextLaws.{text_fault, text_value, text_short}
+use Rattle.variables.proofs.TextLaws.{text_value, text_short}
 use Rattle.variables.proofs.VerbatimLaws.{verbatim_text}
 use Rattle.options.specs.Read.{twice}
 use Rattle.condition.specs.Condition.{Judge}
@@ -33,24 +33,31 @@ use Rattle.entry_line.specs.Contract.{text_or, texts_in, Reads, Acting, Acts}
 use Rattle.entry.specs.declared.entry.Entry.{Entry as Kept}
 
 -- ---- one field
-module _ {j : Bool} {c : List ℕ} {t : ℕ → List ℕ} {e : Entry} (s : Scope) (f : List ℕ) (o : List ℕ → Result FieldRead Cause) (i : ℕ) {r : Result Kept Cause} (te : t i ≡ text_or f (field_text s f)) where
-  -- a field that is its own text
-  pub verbatim_added : verbatim f ≡ true → (t i ≡ f → Adds j c t e (require (leb (length f) 1024) FieldLength (o f)) r) → Adds j c t e (field_as s o f) r
-  verbatim_added v g = rw (verbatim_text s f v) (go (leb (length f) 1024) (rw (verbatim_text s f v) at te) g)
+module _ (s : Scope) (f : List ℕ) where
+  -- the text of a field that is its own text
+  pub verbatim_given : verbatim f ≡ true → (limited f ≡ field_text s f) × (text_or f (field_text s f) ≡ f)
+  verbatim_given v = rw (verbatim_text s f v) (refl, go (leb (length f) 1024))
     where
-      go : (b : Bool) → t i ≡ text_or f (require b FieldLength (Ok f)) → (t i ≡ f → Adds j c t e (require b FieldLength (o f)) r) → Adds j c t e (and_then (require b FieldLength (Ok f)) o) r
-      go true q k = k q
-      go false q k = k q
+      go : (b : Bool) → text_or f (require b FieldLength (Ok f)) ≡ f
+      go true = refl
+      go false = refl
 
-  -- a field whose text was written
-  pub text_added : {old new : List ℕ} {x : (Result ℕ Cause)} {n : ℕ} → x ≡ Ok n → Substitutes s f old new x → (t i ≡ take n new → Adds j c t e (require (leb (length (take n new)) 1024) FieldLength (o (take n new))) r) → Adds j c t e (field_as s o f) r
-  text_added g w k =
-      let v = text_value w g in
-      rw (← v) (rw (le-leb _ _ (text_short w g)) at (k (rw (← v) at te)))
+  -- a text that was written
+  pub text_given : {old new : List ℕ} {x : Result ℕ Cause} {n : ℕ} → x ≡ Ok n → Substitutes s f old new x → (limited (take n new) ≡ field_text s f) × (text_or f (field_text s f) ≡ take n new)
+  text_given g w = rw (← text_value w g) (rw (le-leb _ _ (text_short w g)) refl, refl)
 
--- a field that has no text
-pub text_refused : {j : Bool} {c : List ℕ} {t : ℕ → List ℕ} {e : Entry} (s : Scope) (f : List ℕ) (o : List ℕ → Result FieldRead Cause) {old new : List ℕ} {d : Cause} → Substitutes s f old new (Err d) → Adds j c t e (field_as s o f) (Err d)
-text_refused s f o w = record { adds = rw (← text_fault w refl) refl }
+  module _ {j : Bool} {c : List ℕ} {t : ℕ → List ℕ} {e : Entry} (o : List ℕ → Result FieldRead Cause) where
+    -- a field that has no text
+    pub text_refused : {d : Cause} → Err d ≡ field_text s f → Adds j c t e (field_as s o f) (Err d)
+    text_refused q = record { adds = rw (← q) refl }
+
+    -- a field with the text to add for it
+    pub text_added : (i : ℕ) {y : List ℕ} {r : Result Kept Cause} → t i ≡ text_or f (field_text s f) → (limited y ≡ field_text s f) × (text_or f (field_text s f) ≡ y) → (t i ≡ y → Adds j c t e (require (leb (length y) 1024) FieldLength (o y)) r) → Adds j c t e (field_as s o f) r
+    text_added i {y} {r} te w k = rw (← w.0) (go (leb (length y) 1024) (k (te ∙ w.1)))
+      where
+        go : (b : Bool) → Adds j c t e (require b FieldLength (o y)) r → Adds j c t e (and_then (require b FieldLength (Ok y)) o) r
+        go true a = a
+        go false a = a
 
 -- ---- all fields
 -- a field that ends where the text has no quote and no `$`

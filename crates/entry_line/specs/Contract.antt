@@ -1,4 +1,5 @@
 -- What the answers of the code say: cited by contracts and proofs only.
+use denote.Ref.{Bor}
 use Rattle.question.specs.declared.Age.{Age}
 use Rattle.std.specs.Prelude.{ℕ, ◌≤◌, ◌≡◌, Bool, true, false, ◌&&◌, List, [], length, take, drop, get_or, Err, None, Ok, Option, Result, Some}
 use Rattle.text.specs.Contract.{Wrote}
@@ -6,7 +7,7 @@ use Rattle.fault.specs.Fault.{and_then}
 use Rattle.fault.specs.declared.Cause.{Cause}
 use Rattle.question.specs.Question.{Question}
 use Rattle.variables.specs.Scope.{Scope}
-use Rattle.variables.specs.Substitute.{field_text}
+use Rattle.variables.specs.Substitute.{limited, field_text}
 use Rattle.options.specs.Options.{Options}
 use Rattle.options.specs.Arguments.{ArgumentPattern}
 use Rattle.options.specs.Contract.{options_in, failures}
@@ -29,6 +30,11 @@ text_or f (Ok t) = t
 -- the texts of the fields, by their numbers
 unfoldable pub texts_in : Scope → List (List ℕ) → ℕ → List ℕ
 texts_in sc fs i = text_or (get_or fs i []) (field_text sc (get_or fs i []))
+
+-- the text to add for a field: one that is its own text is given whatever its length
+abbrev pub GivesText : Scope → List ℕ → Result (Bor (List ℕ)) Cause → Type 0
+GivesText sc f (Err c) = Err c ≡ field_text sc f
+GivesText sc f (Ok t) = (limited t.now ≡ field_text sc f) × (text_or f (field_text sc f) ≡ t.now)
 
 -- a field was added by its text, as it is written
 abbrev pub AddsWritten : Judge → Scope → Bool → List ℕ → ℕ → List ℕ → Kept → Result Kept Cause → Type 0

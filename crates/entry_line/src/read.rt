@@ -4,7 +4,7 @@ ghost use Rattle.line.specs.Contract.{fields_in};
 ghost use Rattle.question.specs.Contract.{strings_in};
 ghost use Rattle.variables.specs.Contract.{scope_in, verbatim};
 ghost use Rattle.condition.specs.Condition.{judge_of};
-ghost use Rattle.entry_line.specs.Contract.{AddsWritten, ReadsEntry, ActsOn};
+ghost use Rattle.entry_line.specs.Contract.{GivesText, AddsWritten, ReadsEntry, ActsOn};
 
 use entry::entry::{Entry, PathPlace};
 use fault::Cause;
@@ -21,7 +21,30 @@ fn is_plain(text: &[u8], reach: usize) -> bool
     is_verbatim(&text[..reach.min(text.len())])
 }
 
-// One field more, as it is written: where it is its own text, nothing is copied.
+// The text to add for a field: one that is its own text is given as it is, whatever its length, and nothing is copied.
+fn text_of<'a, 'b>(
+    bytes: &'a [u8; Variables::BYTES],
+    sizes: &'a [usize; Variables::SIZES],
+    names: usize,
+    user: &[u8],
+    host: &[u8],
+    field: &'b [u8],
+    known: bool,
+    scratch: &'b mut [u8; FieldText::BYTES],
+) -> Result<&'b [u8], Cause>
+    requires { known ≡ true → verbatim field.now ≡ true }
+    ensures { GivesText
+        (scope_in user.now host.now bytes.now sizes.now names)
+        field.now result }
+{
+    if known || is_verbatim(field) {
+        return Ok(field);
+    }
+    let n = field_text(bytes, sizes, names, user, host, field, scratch)?;
+    Ok(&scratch[..n])
+}
+
+// One field more, as it is written.
 fn add_field<'a>(
     entry: Entry,
     index: usize,
@@ -44,20 +67,8 @@ fn add_field<'a>(
         (scope_in user.now host.now bytes.now sizes.now names)
         judging command.now index field.now entry result }
 {
-    if known || is_verbatim(field) {
-        return entry.add(index, field, judging, command, user, groups, host, minute);
-    }
-    let n = field_text(bytes, sizes, names, user, host, field, scratch)?;
-    entry.add(
-        index,
-        &scratch[..n],
-        judging,
-        command,
-        user,
-        groups,
-        host,
-        minute,
-    )
+    let text = text_of(bytes, sizes, names, user, host, field, known, scratch)?;
+    entry.add(index, text, judging, command, user, groups, host, minute)
 }
 
 // All fields from one on, and what concerns the whole entry.

@@ -125,7 +125,7 @@ unfoldable pub argument_of : Range → List ℕ → Result Setting Cause
 argument_of r v = and_then (expanded Plain v) (λ e. Ok (set_argument r e))
 
 -- an option by its name and its value; argN and argM-N with 1 to 64, M not above N; patterns on `:global` only
-unfoldable pub option_named : Bool → (name Ok : List ℕ) → Option (Result Setting Cause)
+unfoldable pub option_named : Bool → (name value : List ℕ) → Option (Result Setting Cause)
 option_named global n v =
     cond (bytes_eq n (bytes "uid")) (Some (id_of Uid v))
     (cond (bytes_eq n (bytes "euid")) (Some (id_of Euid v))

@@ -8,7 +8,7 @@ use super::setting::OptionSetting;
 use fault::Cause;
 use text::number::decimal;
 
-#[derive(Drop)]
+#[derive(Clone, Copy)]
 pub struct Timeout;
 
 impl Timeout {

@@ -1,3 +1,4 @@
+use borrow.Author.Rules.{rules}
 use Rattle.entry_line.proofs.ReadLaws.{entry_unjudged, entry_acts, entry_refused}
 use Rattle.std.proofs.lemmas.Result.{err_from_is_err_and}
 use Rattle.entry_line.proofs.read.read_entry.Goals as goal
@@ -9,4 +10,4 @@ pub returns-then-not-judging : goal.returns-then-not-judging
 returns-then-not-judging c = entry_unjudged c.in_ok-entry.ensures c.if-not-judging.true
 
 pub returns : goal.returns
-returns c = entry_acts c.in_ok-entry.ensures c.if-not-judging.false c.accepts.ensures
+returns c = entry_acts c.in_ok-entry.ensures c.if-not-judging.false (search rules)
