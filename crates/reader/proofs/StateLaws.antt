@@ -36,11 +36,11 @@ module _ (caller host : List ℕ) (fs : List (List ℕ)) {args : List (List ℕ)
   unfolding global_line
   line_of_law e = rw (v, e)
 
-  pub global_fault : {c : Cause} {r : Reader} → Reads s.arguments args (global_read (scope_in caller host bytes sizes names) fs) (Err c) → Changes args (global_line (scope_for caller host s) s fs) r (Err c)
+  pub global_fault : {c : Cause} → Reads s.arguments args (global_read (scope_in caller host bytes sizes names) fs) (Err c) → Changes args (global_line (scope_for caller host s) s fs) (Err c)
   global_fault w = record { changes = line_of_law w.reads }
 
   -- the settings over those in force, the line's patterns behind them
-  pub global_good : {g : GlobalRead} {set : OptionSet} {own shell : Bool} → Reads s.arguments args (global_read (scope_in caller host bytes sizes names) fs) (Ok g) → options_in set ≡ over (options_in g.options) (options_in self.options) → own ≡ get_or g.line.stands 7 false → shell ≡ self.shell || own → Changes args (global_line (scope_for caller host s) s fs) (record { options = set; failures = g.failures; shell = shell }) (Ok tt)
+  pub global_good : {g : GlobalRead} {set : OptionSet} {own shell : Bool} → Reads s.arguments args (global_read (scope_in caller host bytes sizes names) fs) (Ok g) → options_in set ≡ over (options_in g.options) (options_in self.options) → own ≡ get_or g.line.stands 7 false → shell ≡ self.shell || own → Changes args (global_line (scope_for caller host s) s fs) (Ok (record { options = set; failures = g.failures; shell = shell }))
   unfolding with_settings
   global_good w p q t =
       let u = w.reads in

@@ -105,20 +105,14 @@ pub record Keeps (args : List (List ℕ)) (r : Reader) (s : State) : Type 0 wher
   pub failures : r.failures.at ≡ failures s.arguments args
   pub shell : r.shell ≡ s.shell
 
--- a line that changes the state: its fault, or the new state
-abbrev pub ChangesIn : List (List ℕ) → Result State Cause → Reader → Result Unit Cause → Type 0
-ChangesIn args o new (Err c) = o ≡ Err c
-ChangesIn args o new (Ok tt) = (s : State) × (o ≡ Ok s) × Keeps args new s
+-- a line that changes the state: its fault, or the reader of the new state
+abbrev pub ChangesIn : List (List ℕ) → Result State Cause → Result Reader Cause → Type 0
+ChangesIn args o (Err c) = o ≡ Err c
+ChangesIn args o (Ok r) = (s : State) × (o ≡ Ok s) × Keeps args r s
 
-pub record Changes (args : List (List ℕ)) (o : Result State Cause) (new : Reader) (r : Result Unit Cause) : Type 0 where
-  pub changes : ChangesIn args o new r
+pub record Changes (args : List (List ℕ)) (o : Result State Cause) (r : Result Reader Cause) : Type 0 where
+  pub changes : ChangesIn args o r
 
--- a reader with a fault is as it was
-abbrev pub Stays : Reader → Reader → Result Unit Cause → Type 0
-Stays old new (Err c) = new ≡ old
-Stays old new (Ok tt) = Unit {0}
-
--- a `:global` changes every state that the reader keeps and that has these variables
-pub record GlobalChanges (caller host : List ℕ) (definitions : List Definition) (args fs : List (List ℕ)) (old new : Reader) (r : Result Unit Cause) : Type 0 where
-  pub changes_each : (s : State) → Keeps args old s → s.definitions ≡ definitions → Changes args (global_line (scope_for caller host s) s fs) new r
-  pub stays : Stays old new r
+-- a `:global` changes every state that the reader keeps and that has these variables; the reader is a copy, handed in by value, and a fault hands none back, so that nothing is left that must stay as it was
+pub record GlobalChanges (caller host : List ℕ) (definitions : List Definition) (args fs : List (List ℕ)) (before : Reader) (r : Result Reader Cause) : Type 0 where
+  pub changes_each : (s : State) → Keeps args before s → s.definitions ≡ definitions → Changes args (global_line (scope_for caller host s) s fs) r

@@ -1,4 +1,4 @@
-// The state between two lines but for the variables.
+// The state between two lines but for the variables, by value: a method takes the old one and hands back the new one.
 ghost use Rattle.std.specs.Prelude.{ℕ, List, drop};
 ghost use Rattle.line.specs.Contract.{fields_in};
 ghost use Rattle.question.specs.Contract.{strings_in};
@@ -13,7 +13,7 @@ use options::set::OptionSet;
 use variables::Variables;
 
 // The options in force, which arguments fail the patterns in force, and whether `patterns=shell` was read.
-#[derive(Drop)]
+#[derive(Clone, Copy)]
 pub struct Reader {
     pub options: OptionSet,
     pub failures: Failures,
@@ -35,9 +35,9 @@ impl Reader {
         }
     }
 
-    // After the `:global` that the fields make from one of them on; in force from the next line. A faulty one changes nothing.
+    // After the `:global` that the fields make from one of them on; in force from the next line. A faulty one hands none back.
     pub fn global<'a, 'b>(
-        &mut self,
+        self,
         text: &'a [u8],
         ends: &'a [usize; 64],
         count: usize,
@@ -48,10 +48,10 @@ impl Reader {
         bytes: &'b [u8; Variables::BYTES],
         sizes: &'b [usize; Variables::SIZES],
         names: usize,
-    ) -> Result<(), Cause>
+    ) -> Result<Reader, Cause>
         ensures { GlobalChanges
             user.now host.now (definitions_in bytes.now sizes.now names)
-            (strings_in args.now) (drop from (fields_in text.now ends.now count)) self.old self.new result }
+            (strings_in args.now) (drop from (fields_in text.now ends.now count)) self result }
     {
         let read = read_global(
             self.failures,
@@ -66,9 +66,10 @@ impl Reader {
             sizes,
             names,
         )?;
-        self.options = read.options.over(self.options);
-        self.failures = read.failures;
-        self.shell = self.shell || read.line.shell();
-        Ok(())
+        Ok(Reader {
+            options: read.options.over(self.options),
+            failures: read.failures,
+            shell: self.shell || read.line.shell(),
+        })
     }
 }

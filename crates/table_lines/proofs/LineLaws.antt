@@ -110,14 +110,14 @@ module _ {q : Question} {t : List ℕ} {v : Variables} {r : Reader} {d : Option 
             onward (defining w.gives) w.variables (record { options = f.keeps.options; failures = f.keeps.failures; shell = f.keeps.shell }) f.decided
 
       -- ---- `:global`
-      module _ {n i : ℕ} (z : x ≡ Ok (Global n i)) {r' : Reader} {y : Result Unit Cause} (h : GlobalChanges user host (definitions_of v) (strings_in args) (drop i (fields_in text ends n)) r r' y) where
-        setting : Changes q.args (global_line (scope_of q f.state) f.state (drop i (fields_in text ends n))) r' y
+      module _ {n i : ℕ} (z : x ≡ Ok (Global n i)) {y : Result Reader Cause} (h : GlobalChanges user host (definitions_of v) (strings_in args) (drop i (fields_in text ends n)) r y) where
+        setting : Changes q.args (global_line (scope_of q f.state) f.state (drop i (fields_in text ends n))) y
         setting = rw k.its_args (rw scope_is at (h.changes_each f.state (rw k.its_args at f.keeps) f.variables))
 
         pub turn_global_fault : {c : Cause} → y ≡ Err c → lines_give q t ≡ Err (faulty c at)
         turn_global_fault o = let w = rw o at setting in stopped (rw z at does ∙ ap at_beginning w.changes)
 
-        pub turn_set : y ≡ Ok tt → SoFar q t v r' d path e (number + count)
+        pub turn_set : {r' : Reader} → y ≡ Ok r' → SoFar q t v r' d path e (number + count)
         unfolding with_settings
         turn_set o =
             let s = rw o at setting in

@@ -105,7 +105,7 @@ pub fn read_lines(
                     variables.count,
                 ) {
                     Err(cause) => return Err(LinesFault::Refused(cause, begin)),
-                    Ok(()) => {}
+                    Ok(next) => reader = next,
                 }
             }
             Ok(LineAction::Decide(count, from, place)) => {
