@@ -1,6 +1,7 @@
 -- The laws of the list functions, and of a text parted at a byte.
 use Rattle.std.specs.Prelude.{None, Some}
-use Rattle.std.specs.List.{list_all, list_any}
+use Rattle.std.specs.List.{list_all, list_any, fold}
+use Rattle.std.proofs.lemmas.List.Folds.{fold_stays}
 use mathlib.Core.Path.{◌≡◌, refl, sym}
 use mathlib.Core.Bool.{Bool, true, false, ◌&&◌, ◌||◌}
 use mathlib.Core.List.{List, [], ◌∷◌, ◌++◌}
@@ -15,6 +16,15 @@ use Rattle.text.specs.Contract.{find_byte}
 use Rattle.text.specs.Parts.{part_at}
 use Rattle.text.proofs.Leads.{found_parts, found_none}
 use Rattle.text.proofs.Laws.{next_of, both_true, both_assoc, either_of, either_assoc, part_start, part_rest}
+
+-- a fold that looks at every element
+pub fold_any : {A : Type 0} (f : A → Bool) (xs : List A) → fold (λ found x. found || f x) false xs ≡ list_any f xs
+fold_any f [] = refl
+fold_any f (x ∷ xs) = by (f x) (fold_any f xs)
+  where
+    by : (t : Bool) → fold (λ found y. found || f y) false xs ≡ list_any f xs → fold (λ found y. found || f y) t xs ≡ t || list_any f xs
+    by true e = fold_stays (λ found y. found || f y) true (λ y. refl) xs
+    by false e = e
 
 -- a turn of a loop that asks each element, with z for what stands past the end
 module _ {A : Type 0} (z : A) (f : A → Bool) (s : List A) (i : ℕ) where

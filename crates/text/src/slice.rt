@@ -3,6 +3,7 @@ ghost use Rattle.std.specs.List.{list_all};
 ghost use Rattle.std.specs.Prelude.{◌+◌, ◌≤◌, ◌≡◌, cond, length, drop};
 ghost use Rattle.text.specs.Class.{name_byte};
 ghost use Rattle.text.specs.Contract.{find_byte, lead};
+ghost use Rattle.text.specs.Lists.{has};
 ghost use Rattle.text.specs.Slice.{head_is, find_pair};
 
 use super::alphabet::{Alphabet, all_in};
@@ -26,13 +27,20 @@ pub fn past_head(s: &[u8], c: u8) -> usize
 // How many bytes are looked at together.
 const BLOCK: usize = 16;
 
+// Whether c is among the bytes. Each is looked at, with no way out of the loop, so that many are at once.
+fn is_among(s: &[u8], c: u8) -> bool
+    ensures { result ≡ has c s.now }
+{
+    s.iter().fold(false, |found, b| found | (*b == c))
+}
+
 // How many bytes stand in front of the first c, or of the end; those of a block are looked at together.
 fn lead(s: &[u8], c: u8) -> usize
     ensures { result ≡ lead c s.now }
 {
     let mut from = 0;
     for block in s.chunks_exact(BLOCK) {
-        if block.contains(&c) {
+        if is_among(block, c) {
             break;
         }
         from += BLOCK;

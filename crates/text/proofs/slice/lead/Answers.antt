@@ -8,7 +8,7 @@ unfolding has
 loop-block-preserved c =
     let l = c.loop-block in
     let g = c.in-Some.ensures.steps in
-    let b = block_on c.args.c c.args.s.now c.in-Some.block.now _ l.from l.invariant.1 (sym l.invariant.2 ∙ g.1.0) (sym c.contains.ensures.value ∙ c.if-contains.false) in
+    let b = block_on c.args.c c.args.s.now c.in-Some.block.now _ l.from l.invariant.1 (sym l.invariant.2 ∙ g.1.0) (sym c.is_among.ensures ∙ c.if-is_among.false) in
     let z = g.1.1 ∙ l.invariant.0 in
     (g.0 ∙ l.invariant.0, rw z at b.0, rw z at b.1, rw z at b.2 ∙ l.invariant.3)
 
