@@ -8,11 +8,12 @@ use native.Mathlib.Nat.{add-zero}
 use native.Mathlib.Numerals.{add-one}
 use native.Mathlib.Omega.{arith}
 use borrow.Author.Tests.{le-leb, lt-leb, leb-true, leb-false}
-use lib.ListN.{length, drop, take, set, length-set, length-append, length-take}
+use lib.ListN.{length, drop, get_or, take, set, length-set, length-append, length-take, drop_of_length-le}
 use borrow.Rule.Slice.PartMut.{put_mid}
 use Rattle.std.proofs.lemmas.Slice.{put_mid-paste}
 use lib.Seq.{paste, set_out, sets, sets-eq, take-nil, take_at, take_all, length-take-le}
 use lib.Dec.{leb}
+use Rattle.text.proofs.Laws.{next}
 use Rattle.text.specs.Buffer.{laid}
 use Rattle.text.specs.Contract.{filled_to, Wrote}
 
@@ -20,6 +21,15 @@ pub laid_length : (out : List ℕ) (n : ℕ) (xs : List ℕ) → length (laid ou
 unfolding laid
 laid_length out n [] = refl
 laid_length out n (b ∷ xs) = laid_length (set out n b) (n + 1) xs ∙ length-set out n b
+
+-- a turn of a loop that stores what stands at i
+pub laid_next : (out : List ℕ) (n : ℕ) (s : List ℕ) (i : ℕ) → i < length s → laid (set out (n + i) (get_or s i 0)) (n + (i + 1)) (drop (i + 1) s) ≡ laid out (n + i) (drop i s)
+unfolding laid
+laid_next out n s i h = rw (next s i) (ap (λ (k : ℕ). laid (set out (n + i) (get_or s i 0)) k (drop (i + 1) s)) (omega arith))
+
+pub laid_end : (out : List ℕ) (m : ℕ) (s : List ℕ) (i : ℕ) → length s ≤ i → laid out m (drop i s) ≡ out
+unfolding laid
+laid_end out m s i h = rw (drop_of_length-le s)
 
 -- past the buffer's end nothing is stored
 pub laid_past : (out : List ℕ) (m : ℕ) (xs : List ℕ) → length out ≤ m → laid out m xs ≡ out

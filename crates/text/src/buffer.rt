@@ -22,7 +22,10 @@ pub fn put_all(out: &mut [u8], n: usize, s: &[u8]) -> Option<usize>
         return None;
     }
     let m = s.len().min(out.len() - n);
-    out[n..n + m].copy_from_slice(&s[..m]);
+    // Stays a loop over places: copy_from_slice calls memmove, which a library for C would newly need from outside.
+    for i in 0..m {
+        out[n + i] = s[i];
+    }
     if m < s.len() {
         return None;
     }
