@@ -45,6 +45,9 @@ module _ {S A : Type 0} (steps : S → Option A → S → Type 0) (v : A → Lis
   taken (y ∷ ys) s t None g p = absurd (g.0 t p)
   taken (y ∷ ys) s t (Some x) g p = (ys, ap (λ z. z ∷ ys) (sym (g.1 x t p).0), (g.1 x t p).1)
 
+  pub no_part : {all : List (List ℕ)} (s t : S) → YieldsList steps v s all → steps s None t → parts_rule all ≡ Err malformed
+  no_part {all} s t road a = rw (taken all s t None road.runs a)
+
   module _ {all : List (List ℕ)} (s s1 s2 : S) (road : YieldsList steps v s all) (x : A) (a : steps s (Some x) s1) where
     first : (more : List (List ℕ)) × (all ≡ v x ∷ more) × AlwaysYields steps v s1 more
     first = taken all s s1 (Some x) road.runs a

@@ -11,6 +11,7 @@ ghost use Rattle.suauth.specs.Contract.{names_told};
 use question::User;
 use question::form::name_is_good;
 use question::strings::Strings;
+use text::split::Split;
 
 // Whether a word is one that is no name in a file.
 #[tactic(auto, unfolding(crate::specs::Rule::reserved))]
@@ -32,7 +33,7 @@ fn is_list_name(p: &[u8]) -> bool
 fn list_is_good(s: &[u8]) -> bool
     ensures { result ≡ list_all list_name (slice_split (is ",") s.now) }
 {
-    s.split(|b| *b == b',').all(|p| is_list_name(p))
+    Split::new(s, b',').all(|p| is_list_name(p))
 }
 
 // Whether a name is one of the groups.
@@ -57,8 +58,7 @@ fn is_asked(name: &[u8], user: &[u8], groups: &[u8], grouped: bool) -> bool
 fn list_has(s: &[u8], user: &[u8], groups: &[u8], grouped: bool) -> bool
     ensures { result ≡ any_of (cond grouped (strings_in groups.now) (user.now ∷ [])) (slice_split (is ",") s.now) }
 {
-    s.split(|b| *b == b',')
-        .any(|p| is_asked(p, user, groups, grouped))
+    Split::new(s, b',').any(|p| is_asked(p, user, groups, grouped))
 }
 
 // A list of users, or of groups.

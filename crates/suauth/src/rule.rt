@@ -7,6 +7,7 @@ use super::Action;
 use super::ids::ids_tell;
 use super::trim::trimmed;
 use text::slice::head_is;
+use text::split::Split;
 
 // A line that is no rule and may not be skipped.
 #[derive(Clone, Copy)]
@@ -58,7 +59,7 @@ fn text_tells(
     if text.is_empty() || head_is(text, b'#') {
         return Ok(None);
     }
-    let mut parts = text.split(|b| *b == b':');
+    let mut parts = Split::new(text, b':');
     let (Some(to), Some(from), Some(action), None) = (
         parts.next(),
         parts.next(),
