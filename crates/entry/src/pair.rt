@@ -11,13 +11,13 @@ use fault::Cause;
 use matching::field::{Expanded, read_pattern_field};
 use matching::matcher::{matches_one, matches_pattern};
 use pattern::Syntax;
-use text::class::is_blank;
 use text::slice::head_is;
 
+#[tactic(auto, using(crate::proofs::PairLaws::blank_has))]
 fn has_blank(p: &[u8]) -> bool
     ensures { result ≡ list_any blank p.now }
 {
-    p.iter().any(|b| is_blank(*b))
+    p.contains(&b' ') || p.contains(&b'\t')
 }
 
 // Whether a path begins with `/` and has no blank.
