@@ -1,13 +1,10 @@
--- A blank by a space and a tab, and a command pattern by what is read of it.
-use Rattle.std.specs.List.{list_any}
+-- A command pattern by what is read of it.
 use Rattle.std.specs.Prelude.{Err, Ok, Result}
-use mathlib.Core.Path.{◌≡◌, refl}
-use mathlib.Core.Bool.{Bool, true, false, ◌||◌}
+use mathlib.Core.Path.{◌≡◌}
+use mathlib.Core.Bool.{Bool, true, false}
 use mathlib.Core.List.{List, [], ◌∷◌}
 use Prim.Native.Nat.{ℕ, ◌≤◌}
-use lib.Dec.{eqb}
 use lib.ListN.{length}
-use Rattle.text.specs.Class.{blank}
 use Rattle.fault.specs.declared.Cause.{Cause}
 use Rattle.pattern.specs.declared.Syntax.TheVariants.{Plain}
 use Rattle.pattern.specs.Tree.{expanded}
@@ -19,18 +16,6 @@ use Rattle.matching.specs.declared.field.Expanded.TheVariants.{Flat, Number}
 use Rattle.matching.proofs.FieldLaws.{told_fault, told_flat, told_number}
 use Rattle.matching.proofs.MatchLaws.{matches_alone, matches_are}
 use Rattle.entry.specs.Contract.{command_read}
-
-either_swap : (x y u v : Bool) → x || y || (u || v) ≡ x || u || (y || v)
-either_swap true y u v = refl
-either_swap false true true v = refl
-either_swap false true false v = refl
-either_swap false false u v = refl
-
--- a text has a blank where it has a space or a tab
-pub blank_has : (s : List ℕ) → list_any blank s ≡ list_any (λ b. eqb b 32) s || list_any (λ b. eqb b 9) s
-unfolding blank
-blank_has [] = refl
-blank_has (b ∷ s) = rw (blank_has s) (either_swap (eqb b 32) (eqb b 9) (list_any (λ x. eqb x 32) s) (list_any (λ x. eqb x 9) s))
 
 module _ (j : Bool) (c p : List ℕ) where
   pub command_fault : {d : Cause} → Err d ≡ pattern_field Plain p → Err d ≡ command_read j c (expanded Plain p)

@@ -11,13 +11,14 @@ use fault::Cause;
 use matching::field::{Expanded, read_pattern_field};
 use matching::matcher::{matches_one, matches_pattern};
 use pattern::Syntax;
+use text::class::is_blank;
 use text::slice::head_is;
 
-#[tactic(auto, using(crate::proofs::PairLaws::blank_has))]
+// Each byte is looked at, with no way out of the loop, so that many are at once.
 fn has_blank(p: &[u8]) -> bool
     ensures { result ≡ list_any blank p.now }
 {
-    p.contains(&b' ') || p.contains(&b'\t')
+    p.iter().fold(false, |found, b| found | is_blank(*b))
 }
 
 // Whether a path begins with `/` and has no blank.

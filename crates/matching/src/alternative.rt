@@ -69,13 +69,14 @@ fn good_part(a: &[u8]) -> bool
 fn is_simple(b: u8) -> bool
     ensures { result ≡ is_simple b }
 {
+    // With returns: as one expression all tests are made for each byte.
     if b > b'\\' {
-        b < b'~'
-    } else if b > b'@' {
-        b < b'['
-    } else {
-        b < b':'
+        return b < b'~';
     }
+    if b > b'@' {
+        return b < b'[';
+    }
+    b < b':'
 }
 
 // Whether all bytes are such.
