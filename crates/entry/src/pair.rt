@@ -11,14 +11,14 @@ use fault::Cause;
 use matching::field::{Expanded, read_pattern_field};
 use matching::matcher::{matches_one, matches_pattern};
 use pattern::Syntax;
-use text::class::is_blank;
-use text::slice::head_is;
+use text::slice::{find_byte, head_is};
 
-// Each byte is looked at, with no way out of the loop, so that many are at once.
+// Each blank is searched by blocks.
+#[tactic(auto, using(crate::proofs::PairLaws::blank_found))]
 fn has_blank(p: &[u8]) -> bool
     ensures { result ≡ list_any blank p.now }
 {
-    p.iter().fold(false, |found, b| found | is_blank(*b))
+    find_byte(p, b' ').is_some() || find_byte(p, b'\t').is_some()
 }
 
 // Whether a path begins with `/` and has no blank.
