@@ -1,5 +1,5 @@
 -- What the contracts of the functions that look at a file say.
-use Rattle.std.specs.Prelude.{◌≡◌, ◌×◌, true, List, ◌++◌, ℕ, ◌%◌, eqb, Option, Some, None, length, take}
+use Rattle.std.specs.Prelude.{◌≡◌, true, List, ◌++◌, ℕ, ◌%◌, eqb, Option, Some, None, length, take}
 use Rattle.record.specs.Layout.{record_length}
 use Rattle.record_log.specs.Recognised.{seen_in}
 use Rattle.record_log.specs.declared.opening.Looking.{Looking}
